@@ -1,0 +1,4 @@
+pub mod Bytes
+pub mod Widths
+pub mod Makes
+pub mod Laws
