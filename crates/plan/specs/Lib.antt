@@ -1,0 +1,5 @@
+pub mod Areas
+pub mod Grounds
+pub mod Laws
+pub mod Lays
+pub mod Plans
