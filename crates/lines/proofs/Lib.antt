@@ -1,0 +1,4 @@
+pub mod Asking
+pub mod Filling
+pub mod Numbers
+pub mod Splitting
