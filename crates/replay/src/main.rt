@@ -1,0 +1,6 @@
+// Plays the script on standard input.
+use std::io;
+
+fn main(rt: LibcRuntime) -> io::Result<()> {
+    script::play_script(&rt)
+}

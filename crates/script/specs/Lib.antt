@@ -1,0 +1,4 @@
+pub mod Stores
+pub mod Answers
+pub mod Sessions
+pub mod Playing

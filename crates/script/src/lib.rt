@@ -1,0 +1,11 @@
+// Scripts: performing the command that a line asks for, and writing its answer.
+mod answer;
+mod play;
+mod session;
+mod store;
+
+pub use answer::Answer;
+pub use play::Stop;
+pub use play::perform_line;
+pub use play::play_script;
+pub use session::Session;
