@@ -1,0 +1,7 @@
+pub mod Refusals
+pub mod States
+pub mod Calls
+pub mod Outcomes
+pub mod Answers
+pub mod Inside
+pub mod Machines
