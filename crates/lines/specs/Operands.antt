@@ -6,7 +6,7 @@ use lib.Chars.{codes}
 use lib.ListN.{length, getD}
 use Rattle.lines.specs.Numerals.{Numeral}
 use Rattle.lines.specs.declared.operand.Operand.{Operand}
-use Rattle.lines.specs.declared.operand.Operand.the-variants.{N, M, Off, Max, File, Saved, Size}
+use Rattle.lines.specs.declared.operand.Operand.the-variants.{N, M, Off, Max, File, Saved, Size, K, Address, Index, Word, Length}
 
 -- Its name in the format.
 abbrev pub nameOf : Operand → List ℕ
@@ -17,6 +17,11 @@ nameOf Max = codes "MAX"
 nameOf File = codes "FILE"
 nameOf Saved = codes "SAVED"
 nameOf Size = codes "SIZE"
+nameOf K = codes "K"
+nameOf Address = codes "ADDRESS"
+nameOf Index = codes "INDEX"
+nameOf Word = codes "WORD"
+nameOf Length = codes "LENGTH"
 
 -- The largest number that it takes.
 abbrev pub mostOf : Operand → ℕ
@@ -27,6 +32,11 @@ mostOf Max = 2 ^ 64 - 1
 mostOf File = 2 ^ 64 - 1
 mostOf Saved = 2 ^ 16 - 1
 mostOf Size = 2 ^ 64 - 1
+mostOf K = 2 ^ 16 - 1
+mostOf Address = 2 ^ 64 - 1
+mostOf Index = 2 ^ 64 - 1
+mostOf Word = 2 ^ 64 - 1
+mostOf Length = 2 ^ 64 - 1
 
 -- The word gives the operand the value n.
 abbrev pub Gives : Operand → List ℕ → ℕ → Type 0

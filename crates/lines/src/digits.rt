@@ -15,7 +15,7 @@ pub(crate) enum NoNumber {
     TooLarge,
 }
 
-fn digit_of(b: u8) -> u64
+pub(crate) fn digit_of(b: u8) -> u64
     ensures { λ r. ⌜ r ≡ digitOf b ⌝ }
 {
     if b >= b'0' && b <= b'9' {

@@ -16,6 +16,7 @@ pub enum Fault<'a> {
     Missing(Operand),
     NotANumber(Operand, &'a [u8]),
     TooLarge(Operand, &'a [u8]),
+    NotBytes(&'a [u8]),
     WordTooMany(&'a [u8]),
 }
 
@@ -51,6 +52,7 @@ impl Fault<'_> {
                 b" is too large: ",
                 word,
             ),
+            Fault::NotBytes(word) => joined(heap, b"HEX is not bytes: ", word, b""),
             Fault::WordTooMany(word) => joined(heap, b"a word too many: ", word, b""),
         }
     }

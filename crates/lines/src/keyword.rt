@@ -11,6 +11,12 @@ pub(crate) enum CommandWord {
     Memory,
     Row,
     Lay,
+    Make,
+    Put,
+    Set,
+    Fetch,
+    Get,
+    Release,
 }
 
 impl CommandWord {
@@ -21,6 +27,12 @@ impl CommandWord {
             b"memory" => Some(CommandWord::Memory),
             b"row" => Some(CommandWord::Row),
             b"lay" => Some(CommandWord::Lay),
+            b"make" => Some(CommandWord::Make),
+            b"put" => Some(CommandWord::Put),
+            b"set" => Some(CommandWord::Set),
+            b"fetch" => Some(CommandWord::Fetch),
+            b"get" => Some(CommandWord::Get),
+            b"release" => Some(CommandWord::Release),
             _ => None,
         }
     }

@@ -2,13 +2,16 @@
 mod command;
 mod digits;
 mod fault;
+mod hexadecimal;
 mod keyword;
 mod operand;
+mod operands;
 mod reading;
 mod scanner;
 
 pub use command::Command;
-pub use command::Make;
+pub use command::MemoryMake;
 pub use fault::Fault;
+pub use hexadecimal::decode_hex;
 pub use operand::Operand;
 pub use reading::read_command;

@@ -11,6 +11,11 @@ pub enum Operand {
     File,
     Saved,
     Size,
+    K,
+    Address,
+    Index,
+    Word,
+    Length,
 }
 
 impl Operand {
@@ -26,6 +31,11 @@ impl Operand {
             Operand::File => "FILE",
             Operand::Saved => "SAVED",
             Operand::Size => "SIZE",
+            Operand::K => "K",
+            Operand::Address => "ADDRESS",
+            Operand::Index => "INDEX",
+            Operand::Word => "WORD",
+            Operand::Length => "LENGTH",
         }
     }
 
@@ -34,9 +44,17 @@ impl Operand {
         ensures { λ r. ⌜ r ≡ mostOf self ⌝ }
     {
         match self {
-            Operand::Saved => 0xffff,
-            Operand::N | Operand::M | Operand::Off | Operand::Max | Operand::File | Operand::Size =>
-                u64::MAX,
+            Operand::Saved | Operand::K => 0xffff,
+            Operand::N
+            | Operand::M
+            | Operand::Off
+            | Operand::Max
+            | Operand::File
+            | Operand::Size
+            | Operand::Address
+            | Operand::Index
+            | Operand::Word
+            | Operand::Length => u64::MAX,
         }
     }
 }

@@ -1,73 +1,26 @@
 // Reading a line as a command.
-ghost use mathlib.Core.Path.{_≡_};
-ghost use mathlib.Core.List.{List, [], _∷_};
-ghost use Prim.Native.Nat.{ℕ};
-ghost use Rattle.lines.specs.Commands.{Asks, AsksMake, Reads};
-ghost use Rattle.lines.specs.Keywords.{commandText};
+ghost use mathlib.Core.List.{List};
+ghost use Rattle.lines.specs.Commands.{AsksMake, Reads, ReadsRest};
 ghost use Rattle.lines.specs.Lines.{wordsOf};
-ghost use Rattle.lines.specs.Operands.{Filled, Gives};
-ghost use Rattle.lines.specs.declared.command.Command.{Command as Asked};
-ghost use Rattle.lines.specs.declared.command.Make.{Make as AskedMake};
+ghost use Rattle.lines.specs.declared.command.MemoryMake.{MemoryMake as Asked};
+ghost use Rattle.lines.specs.declared.keyword.CommandWord.the-variants as first;
 ghost use Rattle.std.specs.Results.{Cases};
 use super::command::Command;
-use super::command::Make;
-use super::digits::NoNumber;
-use super::digits::numeral;
+use super::command::MemoryMake;
 use super::fault::Fault;
 use super::keyword::CommandWord;
 use super::keyword::MakeWord;
 use super::operand::Operand;
+use super::operands::end;
+use super::operands::is_hex;
+use super::operands::number;
+use super::operands::numbers;
 use super::scanner::Scanner;
 use plan::Row;
 
-// The next word as the value of an operand.
-fn number<'a>(words: &mut Scanner<'a>, operand: Operand) -> Result<u64, Fault<'a>>
-    ensures { λ r. ⌜ Cases r (λ n. (w : List ℕ) × (wordsOf (now (now (words .entry) .rest)) ≡ w ∷ wordsOf (now (now (words .exit) .rest))) × Gives operand w n) (λ _. (w : List ℕ) (ws : List (List ℕ)) (n : ℕ) → wordsOf (now (now (words .entry) .rest)) ≡ w ∷ ws → Gives operand w n → ⊥) ⌝ }
-{
-    let Some(word) = words.next_word() else {
-        return Err(Fault::Missing(operand));
-    };
-    match numeral(word) {
-        Ok(n) => {
-            if n <= operand.most() {
-                Ok(n)
-            } else {
-                Err(Fault::TooLarge(operand, word))
-            }
-        }
-        Err(NoNumber::TooLarge) => Err(Fault::TooLarge(operand, word)),
-        Err(NoNumber::NotANumber) => Err(Fault::NotANumber(operand, word)),
-    }
-}
-
-// The line ends here.
-fn end<'a>(words: &mut Scanner<'a>) -> Result<(), Fault<'a>>
-    ensures { λ r. ⌜ Cases r (λ _. wordsOf (now (now (words .entry) .rest)) ≡ []) (λ _. wordsOf (now (now (words .entry) .rest)) ≡ [] → ⊥) ⌝ }
-{
-    match words.next_word() {
-        Some(word) => Err(Fault::WordTooMany(word)),
-        None => Ok(()),
-    }
-}
-
-// The rest of the line as the values of these operands, and no more.
-fn numbers<'a, const N: usize>(
-    words: &mut Scanner<'a>,
-    operands: [Operand; N],
-) -> Result<[u64; N], Fault<'a>>
-    ensures { λ r. ⌜ Cases r (λ ns. Filled (operands .entry) (wordsOf (now (now (words .entry) .rest))) ns) (λ _. (ns : List ℕ) → Filled (operands .entry) (wordsOf (now (now (words .entry) .rest))) ns → ⊥) ⌝ }
-{
-    let mut values = [0; N];
-    for (i, operand) in operands.iter().enumerate() {
-        values[i] = number(words, *operand)?;
-    }
-    end(words)?;
-    Ok(values)
-}
-
 // The rest of a line that begins with `memory`.
-fn read_make<'a>(words: &mut Scanner<'a>) -> Result<Make, Fault<'a>>
-    ensures { λ r. ⌜ Cases r (λ make. AsksMake (wordsOf (now (now (words .entry) .rest))) make) (λ _. (make : AskedMake) → AsksMake (wordsOf (now (now (words .entry) .rest))) make → ⊥) ⌝ }
+fn read_make<'a>(words: &mut Scanner<'a>) -> Result<MemoryMake, Fault<'a>>
+    ensures { λ r. ⌜ Cases r (λ m. AsksMake (wordsOf (now (now (words .entry) .rest))) m) (λ _. (m : Asked) → AsksMake (wordsOf (now (now (words .entry) .rest))) m → ⊥) ⌝ }
 {
     let Some(word) = words.next_word() else {
         return Err(Fault::NoMake);
@@ -78,47 +31,101 @@ fn read_make<'a>(words: &mut Scanner<'a>) -> Result<Make, Fault<'a>>
     match make {
         MakeWord::Flat => {
             let [n] = numbers(words, [Operand::N])?;
-            Ok(Make::Flat(n))
+            Ok(MemoryMake::Flat(n))
         }
         MakeWord::Words => {
             let [n] = numbers(words, [Operand::N])?;
-            Ok(Make::Words(n))
+            Ok(MemoryMake::Words(n))
         }
         MakeWord::Spliced => {
             let [n, m] = numbers(words, [Operand::N, Operand::M])?;
-            Ok(Make::Spliced(n, m))
+            Ok(MemoryMake::Spliced(n, m))
         }
     }
 }
 
-// The rest of a line that begins with this word.
-fn read_rest<'a>(words: &mut Scanner<'a>, first: CommandWord) -> Result<Command, Fault<'a>>
-    ensures { λ r. ⌜ Cases r (λ c. Asks (commandText first ∷ wordsOf (now (now (words .entry) .rest))) c) (λ _. (c : Asked) → Asks (commandText first ∷ wordsOf (now (now (words .entry) .rest))) c → ⊥) ⌝ }
+fn read_row<'a>(words: &mut Scanner<'a>) -> Result<Command<'a>, Fault<'a>>
+    ensures { λ r. ⌜ ReadsRest first.Row (wordsOf (now (now (words .entry) .rest))) r ⌝ }
 {
-    match first {
+    let [off, max, file, saved] = numbers(
+        words,
+        [Operand::Off, Operand::Max, Operand::File, Operand::Saved],
+    )?;
+    let saved = saved as u16;
+    Ok(Command::Row(Row {
+        off,
+        max,
+        file,
+        saved,
+    }))
+}
+
+fn read_put<'a>(words: &mut Scanner<'a>) -> Result<Command<'a>, Fault<'a>>
+    ensures { λ r. ⌜ ReadsRest first.Put (wordsOf (now (now (words .entry) .rest))) r ⌝ }
+{
+    let k = number(words, Operand::K)? as u16;
+    let address = number(words, Operand::Address)?;
+    let hex = words.next_word().unwrap_or(b"");
+    if !is_hex(hex) {
+        return Err(Fault::NotBytes(hex));
+    }
+    end(words)?;
+    Ok(Command::Put(k, address, hex))
+}
+
+fn read_set<'a>(words: &mut Scanner<'a>) -> Result<Command<'a>, Fault<'a>>
+    ensures { λ r. ⌜ ReadsRest first.Set (wordsOf (now (now (words .entry) .rest))) r ⌝ }
+{
+    let [k, index, word] = numbers(words, [Operand::K, Operand::Index, Operand::Word])?;
+    Ok(Command::Set(k as u16, index, word))
+}
+
+fn read_fetch<'a>(words: &mut Scanner<'a>) -> Result<Command<'a>, Fault<'a>>
+    ensures { λ r. ⌜ ReadsRest first.Fetch (wordsOf (now (now (words .entry) .rest))) r ⌝ }
+{
+    let [k, address, length] = numbers(words, [Operand::K, Operand::Address, Operand::Length])?;
+    Ok(Command::Fetch(k as u16, address, length))
+}
+
+fn read_get<'a>(words: &mut Scanner<'a>) -> Result<Command<'a>, Fault<'a>>
+    ensures { λ r. ⌜ ReadsRest first.Get (wordsOf (now (now (words .entry) .rest))) r ⌝ }
+{
+    let [k, index] = numbers(words, [Operand::K, Operand::Index])?;
+    Ok(Command::Get(k as u16, index))
+}
+
+fn read_lay<'a>(words: &mut Scanner<'a>) -> Result<Command<'a>, Fault<'a>>
+    ensures { λ r. ⌜ ReadsRest first.Lay (wordsOf (now (now (words .entry) .rest))) r ⌝ }
+{
+    let [size] = numbers(words, [Operand::Size])?;
+    Ok(Command::Lay(size))
+}
+
+// The rest of a line that begins with this word.
+fn read_rest<'a>(words: &mut Scanner<'a>, word: CommandWord) -> Result<Command<'a>, Fault<'a>>
+    ensures { λ r. ⌜ ReadsRest word (wordsOf (now (now (words .entry) .rest))) r ⌝ }
+{
+    match word {
         CommandWord::Memory => Ok(Command::Memory(read_make(words)?)),
-        CommandWord::Row => {
-            let [off, max, file, saved] = numbers(
-                words,
-                [Operand::Off, Operand::Max, Operand::File, Operand::Saved],
-            )?;
-            let saved = saved as u16;
-            Ok(Command::Row(Row {
-                off,
-                max,
-                file,
-                saved,
-            }))
+        CommandWord::Row => read_row(words),
+        CommandWord::Lay => read_lay(words),
+        CommandWord::Make => {
+            end(words)?;
+            Ok(Command::Make)
         }
-        CommandWord::Lay => {
-            let [size] = numbers(words, [Operand::Size])?;
-            Ok(Command::Lay(size))
+        CommandWord::Put => read_put(words),
+        CommandWord::Set => read_set(words),
+        CommandWord::Fetch => read_fetch(words),
+        CommandWord::Get => read_get(words),
+        CommandWord::Release => {
+            end(words)?;
+            Ok(Command::Release)
         }
     }
 }
 
 // The command that a line asks for, or none where the line is passed over.
-pub fn read_command(line: &[u8]) -> Result<Option<Command>, Fault<'_>>
+pub fn read_command(line: &[u8]) -> Result<Option<Command<'_>>, Fault<'_>>
     ensures { λ r. ⌜ Reads (wordsOf (now (line .entry))) r ⌝ }
 {
     let mut words = Scanner::new(line);

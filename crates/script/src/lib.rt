@@ -1,5 +1,6 @@
 // Scripts: performing the command that a line asks for, and writing its answer.
 mod answer;
+mod machines;
 mod play;
 mod session;
 mod store;
@@ -9,3 +10,4 @@ pub use play::Stop;
 pub use play::perform_line;
 pub use play::play_script;
 pub use session::Session;
+pub use session::Trouble;

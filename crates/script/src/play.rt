@@ -3,6 +3,7 @@ ghost use Rattle.lines.specs.Lines.{wordsOf};
 ghost use Rattle.script.specs.Playing.{Plays};
 use super::answer::Answer;
 use super::session::Session;
+use super::session::Trouble;
 use lines::Fault;
 use lines::read_command;
 use std::alloc::Global;
@@ -16,7 +17,7 @@ use std::io::Write;
 #[derive(Clone, Copy)]
 pub enum Stop<'a> {
     Unread(Fault<'a>),
-    NoRoom,
+    Unperformed(Trouble),
 }
 
 // Performs the command that the line asks for.
@@ -34,7 +35,7 @@ pub fn perform_line<'a>(
     };
     match session.perform(heap, command) {
         Ok(answer) => Ok(Some(answer)),
-        Err(_) => Err(Stop::NoRoom),
+        Err(trouble) => Err(Stop::Unperformed(trouble)),
     }
 }
 
@@ -52,7 +53,7 @@ fn report(rt: &LibcRuntime, number: u64, stop: Stop<'_>) -> io::Result<()> {
     write!(out, "replay: line {number}: ")?;
     match stop {
         Stop::Unread(fault) => out.write_all(fault.message(rt.alloc())?.as_slice())?,
-        Stop::NoRoom => write!(out, "no room for what it asks for")?,
+        Stop::Unperformed(trouble) => out.write_all(trouble.text().as_bytes())?,
     }
     writeln!(out)?;
     Err(io::Error::other("the script stops"))

@@ -5,7 +5,7 @@ ghost use Rattle.memory.specs.Bytes.{cut, bytesOfAll};
 ghost use Rattle.memory.specs.Makes.{flatBytes, wordsBytes};
 ghost use Rattle.script.specs.Stores.{storeBytes, madeSize};
 ghost use Rattle.std.specs.Vec.{made};
-use lines::Make;
+use lines::MemoryMake;
 use memory::Flat;
 use memory::FlatMemory;
 use memory::Memory;
@@ -37,13 +37,13 @@ fn zero_words(heap: Global, count: u64) -> Result<Words, AllocError>
 
 impl Store {
     // A memory of zeros.
-    pub fn new(heap: Global, make: Make) -> Result<Store, AllocError>
+    pub fn new(heap: Global, make: MemoryMake) -> Result<Store, AllocError>
         ensures { λ r. ⌜ made r (λ s. storeBytes s ≡ replicate (madeSize make) 0) ⌝ }
     {
         match make {
-            Make::Flat(n) => Ok(Store::Flat(zero_bytes(heap, n)?)),
-            Make::Words(n) => Ok(Store::Words(zero_words(heap, n)?)),
-            Make::Spliced(n, m) => {
+            MemoryMake::Flat(n) => Ok(Store::Flat(zero_bytes(heap, n)?)),
+            MemoryMake::Words(n) => Ok(Store::Words(zero_words(heap, n)?)),
+            MemoryMake::Spliced(n, m) => {
                 let first = zero_bytes(heap, n)?;
                 Ok(Store::Spliced(Spliced::new(first, zero_words(heap, m)?)))
             }

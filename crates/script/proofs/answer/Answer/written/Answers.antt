@@ -17,11 +17,11 @@ ends xs ys b e f = e ∙ ap (λ (n : ℕ). xs ++ n ∷ []) f
 pub returns : need.returns
 returns c =
     let line = c .args .line .now in
-    let text : c .as-bytes .result .now ≡ answerText (c .args .self) = c .as-bytes .ensures .value ∙ c .in-Continue-text .ensures tt in
+    let text : c .as-slice .result .now ≡ answerText (c .args .self .now) = c .as-slice .ensures .value ∙ c .in-Continue-text .ensures tt in
     ends _ _ _ (c .in-Continue-push .ensures tt .items) (omega arith)
     ∙ ap (λ (xs : List ℕ). xs ++ (10 ∷ []))
     (c .in-Continue-extend-from-slice-2 .ensures tt .items
-    ∙ ap (λ (xs : List ℕ). xs ++ c .as-bytes .result .now)
+    ∙ ap (λ (xs : List ℕ). xs ++ c .as-slice .result .now)
     (c .in-Continue-extend-from-slice .ensures tt .items ∙ ap (λ (xs : List ℕ). xs ++ codes ": ") (c .in-Continue-out .ensures tt .made .0)))
     ∙ ap (λ (xs : List ℕ). ((line ++ codes ": ") ++ xs) ++ (10 ∷ [])) text
-    ∙ four line (codes ": ") (answerText (c .args .self)) (10 ∷ [])
+    ∙ four line (codes ": ") (answerText (c .args .self .now)) (10 ∷ [])

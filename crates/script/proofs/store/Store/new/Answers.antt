@@ -5,13 +5,13 @@ use lib.ListN.{replicate}
 use Rattle.memory.specs.Bytes.{cut}
 use Rattle.memory.specs.Makes.{wordsBytes}
 use Rattle.script.specs.Stores.{madeSize}
-use Rattle.lines.specs.declared.command.Make.{Make}
+use Rattle.lines.specs.declared.command.MemoryMake.{MemoryMake}
 use Rattle.script.proofs.Zeros.{cut-zeros, words-zeros, spliced-zeros}
 use Rattle.script.proofs.store.Store.new.Needs as need
 
 -- what an arm gives is of the size that its make asks for
-sized : (bs : List ℕ) (m n : Make) → m ≡ n → bs ≡ replicate (madeSize n) 0 → bs ≡ replicate (madeSize m) 0
-sized bs m n e h = h ∙ ap (λ (k : Make). replicate (madeSize k) 0) (sym e)
+sized : (bs : List ℕ) (m n : MemoryMake) → m ≡ n → bs ≡ replicate (madeSize n) 0 → bs ≡ replicate (madeSize m) 0
+sized bs m n e h = h ∙ ap (λ (k : MemoryMake). replicate (madeSize k) 0) (sym e)
 
 pub returns-in-Continue-zero-bytes : need.returns-in-Continue-zero-bytes
 returns-in-Continue-zero-bytes c = sized _ _ _ (c .in-Flat .is) (c .in-Continue-zero-bytes .ensures tt ∙ cut-zeros (c .in-Flat .n))

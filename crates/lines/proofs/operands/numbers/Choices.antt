@@ -5,7 +5,7 @@ use lib.ListN.{length, getD, drop}
 use Rattle.lines.specs.Lines.{wordsOf}
 use Rattle.lines.specs.Operands.{Gives}
 use Rattle.lines.specs.declared.operand.Operand.the-variants.{N}
-use Rattle.lines.proofs.reading.numbers.Given as given
+use Rattle.lines.proofs.operands.numbers.Given as given
 
 -- the words so far give the values so far, and the others are still to come
 abbrev pub Inv-loop-i : given.InvT-loop-i

@@ -6,7 +6,7 @@ use Rattle.std.proofs.shelf.Lists.{drop-all}
 use Rattle.std.proofs.shelf.Results.{cases-from-err}
 use Rattle.lines.specs.Lines.{wordsOf}
 use Rattle.lines.proofs.Filling.{filled-more, none-filled}
-use Rattle.lines.proofs.reading.numbers.Needs as need
+use Rattle.lines.proofs.operands.numbers.Needs as need
 
 pub loop-i-again : need.loop-i-again
 loop-i-again g c =

@@ -4,7 +4,7 @@ use Prim.Native.Nat.{ℕ}
 use native.Mathlib.Omega.{arith}
 use Rattle.lines.specs.Numerals.{Numeral}
 use Rattle.lines.proofs.Numbers.{one-number}
-use Rattle.lines.proofs.reading.number.Needs as need
+use Rattle.lines.proofs.operands.number.Needs as need
 
 pub returns-else-n-most : need.returns-else-n-most
 returns-else-n-most c w ws n e h =
