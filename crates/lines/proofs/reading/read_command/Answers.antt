@@ -21,16 +21,16 @@ use Rattle.lines.specs.declared.command.Command.{Command}
 use Rattle.lines.proofs.Texts.{same-command}
 use Rattle.lines.proofs.reading.read_command.Needs as need
 
-begins : (w : List ℕ) → getD w 0 0 ≡ 35 → w ≡ 35 ∷ drop 1 w
-begins [] e = absurd (omega arith)
-begins (x ∷ xs) e = ap (λ (n : ℕ). n ∷ xs) e
+begins : (w : List ℕ) (mark : ℕ) → mark ≡ 35 → getD w 0 0 ≡ 35 → w ≡ mark ∷ drop 1 w
+begins [] mark is e = absurd (omega arith)
+begins (x ∷ xs) mark is e = ap (λ (n : ℕ). n ∷ xs) (omega arith)
 
 -- a line whose first word does not begin with #
-module _ (words rest : List (List ℕ)) (word : List ℕ) (r : Bool) (b : words ≡ word ∷ rest) (m : Matches (λ (a b : ℕ) (t : Bool). Decides t (a ≡ b)) (35 ∷ []) (take 1 word) r) (off : r ≡ false) where
+module _ (words rest : List (List ℕ)) (word : List ℕ) (r : Bool) (mark : ℕ) (b : words ≡ word ∷ rest) (m : Matches (λ (a b : ℕ) (t : Bool). Decides t (a ≡ b)) (mark ∷ []) (take 1 word) r) (off : r ≡ false) (is : mark ≡ 35) where
   not-silent : Silent words → ⊥
   not-silent silent =
-      let mark : getD word 0 0 ≡ 35 = subst Silent b silent in
-      both-ways r off (starts-is word (35 ∷ []) r m .1 (drop 1 word) (begins word mark))
+      let first : getD word 0 0 ≡ 35 = subst Silent b silent in
+      both-ways r off (starts-is word (mark ∷ []) r m .1 (drop 1 word) (begins word mark is first))
 
   -- and is no command
   no-command : ((k : CommandWord) → word ≡ commandText k → ⊥) → Unreadable words
@@ -38,7 +38,7 @@ module _ (words rest : List (List ℕ)) (word : List ℕ) (r : Bool) (b : words 
 
 pub returns-in-rest-of : need.returns-in-rest-of
 returns-in-rest-of c =
-    no-command _ _ _ _ (ap wordsOf (sym (c .new-words .ensures)) ∙ c .in-Some .ensures tt) (c .starts-with .ensures .matches) (c .if-starts-with .left)
+    no-command _ _ _ _ _ (ap wordsOf (sym (c .new-words .ensures)) ∙ c .in-Some .ensures tt) (c .starts-with .ensures .matches) (c .if-starts-with .left) (omega arith)
     (c .in-rest-of .ensures tt)
 
 -- the words behind the command's name do not ask for it
@@ -57,6 +57,6 @@ pub returns-in-Break-read-rest : need.returns-in-Break-read-rest
 returns-in-Break-read-rest c =
     let words = ap wordsOf (sym (c .new-words .ensures)) ∙ c .in-Some .ensures tt in
     reads-fault _ (c .from-residual .result) (c .from-residual .ensures .0) (
-      not-silent _ _ _ _ words (c .starts-with .ensures .matches) (c .if-starts-with .left),
+      not-silent _ _ _ _ _ words (c .starts-with .ensures .matches) (c .if-starts-with .left) (omega arith),
       nothing-behind _ _ _ _ words (c .in-Some-of .ensures tt) (c .in-Break-read-rest .ensures tt),
     )
