@@ -165,7 +165,23 @@ troubleOf (Fetch k b n) g = needsMachine g
 troubleOf (Get k i) g = needsMachine g
 troubleOf Release g = needsMachine g
 
+-- Only these make something that may find no room: a memory, a row, and the bytes of a put and a fetch.
+abbrev pub NeedsRoom : Command → Type 0
+NeedsRoom (Memory make) = Unit {0}
+NeedsRoom (Row r) = Unit {0}
+NeedsRoom (Lay n) = ⊥
+NeedsRoom Make = ⊥
+NeedsRoom (Put k b hex) = Unit {0}
+NeedsRoom (Set k i w) = ⊥
+NeedsRoom (Fetch k b n) = Unit {0}
+NeedsRoom (Get k i) = ⊥
+NeedsRoom Release = ⊥
+
+-- Why a command is not performed at a stage.
+abbrev pub Hindered : Command → Stage → Trouble → Type 0
+Hindered c g e = ((e ≡ NoRoom) × NeedsRoom c) ⊎ (troubleOf c g ≡ Some e)
+
 -- What performing a command answers: where it cannot be performed, nothing changes.
 abbrev pub Performed : Command → Session → Result Answer Trouble → Session → Type 0
 Performed c s (Ok a) t = (troubleOf c (s .stage) ≡ None) × Performs c s a t
-Performed c s (Err e) t = ((e ≡ NoRoom) ⊎ (troubleOf c (s .stage) ≡ Some e)) × Same s t
+Performed c s (Err e) t = Hindered c (s .stage) e × Same s t
