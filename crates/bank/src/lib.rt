@@ -1,4 +1,6 @@
 // The working registers of a run, on a work area that the caller lends.
+#![tactic(auto)]
+
 mod guard;
 mod registers;
 

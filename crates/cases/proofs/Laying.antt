@@ -1,5 +1,5 @@
 -- One row, its window at the start of the memory: which grounds apply, by where its register file lies.
-use Rattle.std.proofs.Common.{◌≡◌, ℕ, zero, suc, ◌+◌, ◌<◌, ◌≤◌, ◌⊎◌, refl, inl, inr, ⊎_elim, arith}
+use Rattle.std.proofs.Common.{◌≡◌, ℕ, zero, suc, ◌+◌, ◌<◌, ◌≤◌, refl, inl, inr, ⊎_elim, arith}
 use Rattle.plan.specs.Areas.{Crosses, Shares, row_at}
 use Rattle.plan.specs.Grounds.{ground_number, Applies, Overlaps, Precedes}
 use Rattle.plan.specs.declared.ground.Ground.{Ground}

@@ -3,7 +3,6 @@ use Rattle.std.specs.Prelude.{ℕ, List, [], ◌∷◌}
 use Rattle.plan.specs.Grounds.{Faultless, Refuses}
 use Rattle.plan.specs.declared.row.Row.{Row}
 use Rattle.plan.specs.declared.ground.Ground.{Ground}
-use Rattle.plan.specs.declared.ground.LayRefusal.{LayRefusal}
 
 abbrev pub rows_with : ℕ → List Row
 rows_with file = record { off = 0; max = 4095; file = file; saved = 1 } ∷ []

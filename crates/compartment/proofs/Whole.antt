@@ -1,10 +1,7 @@
 -- The parts of a compartment's run, put together.
-use Rattle.std.proofs.Common.{◌≡◌, ℕ, ◌+◌, ◌⊎◌, List, length, sym, refl, ap, ◌∙◌}
-use Rattle.isa.specs.Ends.{end_code}
-use Rattle.isa.specs.Steps.{Config}
-use Rattle.isa.specs.Runs.{Ran, ran}
+use Rattle.std.proofs.Common.{◌≡◌, ℕ, ◌+◌, ◌⊎◌, List, length, sym, ap, ◌∙◌}
+use Rattle.isa.specs.Runs.{ran}
 use Rattle.isa.specs.Compartments.{Ended, started, filed, ended, compartment_ran}
-use Rattle.isa.specs.declared.end.End.{End}
 use Rattle.runs.proofs.Keeps.{runs_keep_lem}
 use Rattle.window.specs.declared.extent.Extent.{Extent}
 use Rattle.window.specs.Views.{seen, replaced, Whole, Before}

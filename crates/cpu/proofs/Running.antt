@@ -1,7 +1,7 @@
 -- A run over a memory: one more instruction, and its ends.
-use Rattle.std.proofs.Common.{◌≡◌, ℕ, suc, ◌+◌, ◌-◌, ◌<◌, ◌≤◌, List, length, Some, None, Option, sym, refl, ap, ◌∙◌, arith}
-use Rattle.isa.specs.Steps.{Config, Stepped, stepped}
-use Rattle.isa.specs.Runs.{Ran, ran_on}
+use Rattle.std.proofs.Common.{◌≡◌, ℕ, suc, ◌+◌, ◌-◌, ◌<◌, ◌≤◌, List, length, Some, None, Option, sym, ap, ◌∙◌, arith}
+use Rattle.isa.specs.Steps.{Config, stepped}
+use Rattle.isa.specs.Runs.{ran_on}
 use Rattle.isa.specs.declared.end.End.{End}
 use Rattle.isa.specs.declared.end.End.TheVariants.{Budget}
 use Rattle.isa.proofs.Going.{ran_goes, ran_ends, ran_spent}

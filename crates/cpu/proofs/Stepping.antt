@@ -1,10 +1,10 @@
 -- The parts of a step, put together.
-use Rattle.std.proofs.Common.{◌≡◌, ℕ, List, get_or, set, sym, refl, ap, ◌∙◌}
+use Rattle.std.proofs.Common.{◌≡◌, ℕ, List, get_or, set, ap, ◌∙◌}
 use Rattle.std.proofs.lemmas.List.{set-set, set-get_or}
 use Rattle.numbers.specs.Values.{plus}
 use Rattle.isa.specs.Effects.{effect_of}
 use Rattle.isa.specs.Reading.{decoded}
-use Rattle.isa.specs.Steps.{Config, Stepped, sources_of, performed, obeyed, stepped}
+use Rattle.isa.specs.Steps.{sources_of, performed, obeyed, stepped}
 use Rattle.isa.specs.declared.instruction.Instruction.{Instruction}
 use Rattle.isa.specs.declared.effect.Effect.{Effect}
 use Rattle.cpu.specs.Configs.{begun}

@@ -1,4 +1,6 @@
 // Running instructions over any memory and any window: reading one, performing it, and the run of a budget.
+#![tactic(auto)]
+
 mod budget;
 mod effects;
 mod steps;

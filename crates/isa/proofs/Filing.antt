@@ -1,10 +1,10 @@
 -- A register file piece by piece, eight bytes each: what a run takes from it and writes back.
-use Rattle.std.proofs.Common.{◌≡◌, ℕ, zero, suc, ◌+◌, ◌*◌, ◌^◌, ◌<◌, ◌≤◌, Bool, true, false, cond, List, [], ◌∷◌, ◌++◌, map, length, get_or, take, drop, sym, refl, ap, ◌∙◌, not-suc-le-zero, arith}
+use Rattle.std.proofs.Common.{◌≡◌, ℕ, zero, suc, ◌+◌, ◌*◌, ◌^◌, ◌<◌, ◌≤◌, Bool, true, false, cond, List, ◌++◌, length, get_or, take, drop, sym, refl, ap, ◌∙◌, not-suc-le-zero, arith}
 use Rattle.std.specs.List.{range_with_len, flat_map, AllByRecursion as All}
 use Rattle.std.proofs.lemmas.List.{length-append, length-take, length-drop, take_at, drop_at, drop-drop}
 use Rattle.std.proofs.ByRecursion.{All-append, All-map, All-take, All-drop}
 use Rattle.std.proofs.lemmas.Bool.Decides.{nat_tests}
-use Rattle.memory.specs.Bytes.{bytes_of, value_at}
+use Rattle.memory.specs.Bytes.{bytes_of}
 use Rattle.memory.proofs.Digits.{length-bytes_of}
 use Rattle.memory.proofs.Bounds.{Small, value_at_below, all_bytes_of}
 use Rattle.isa.specs.Compartments.{entry_bytes, entry_value, keeps, started, filed}

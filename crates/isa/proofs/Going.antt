@@ -1,7 +1,7 @@
 -- A run, one instruction at a time.
-use Rattle.std.proofs.Common.{◌≡◌, ℕ, zero, suc, ◌+◌, Some, None, refl}
+use Rattle.std.proofs.Common.{◌≡◌, ℕ, suc, ◌+◌, Some, None, refl}
 use Rattle.isa.specs.Steps.{Config, stepped}
-use Rattle.isa.specs.Runs.{Ran, ran_on}
+use Rattle.isa.specs.Runs.{ran_on}
 use Rattle.isa.specs.declared.end.End.{End}
 use Rattle.isa.specs.declared.end.End.TheVariants.{Budget}
 

@@ -3,7 +3,7 @@ use Rattle.std.specs.Prelude.{ℕ, ◌*◌, Bool, true, cond, List, map, take, d
 use Rattle.std.specs.List.{range_with_len, flat_map}
 use Rattle.memory.specs.Bytes.{bytes_of, value_at}
 use Rattle.isa.specs.Ends.{end_code}
-use Rattle.isa.specs.Steps.{Config, P}
+use Rattle.isa.specs.Steps.{P}
 use Rattle.isa.specs.Runs.{Ran, ran}
 
 -- Entry k of a register file: eight bytes, and the qword that they stand for.

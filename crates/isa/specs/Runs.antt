@@ -1,6 +1,6 @@
 -- The run of a budget: steps until an instruction ends the run or the budget is spent.
 use Rattle.std.specs.Prelude.{ℕ, zero, suc, ◌+◌, Some, None, Option}
-use Rattle.isa.specs.Steps.{Config, Stepped, stepped}
+use Rattle.isa.specs.Steps.{Config, stepped}
 use Rattle.isa.specs.declared.end.End.{End}
 use Rattle.isa.specs.declared.end.End.TheVariants.{Budget}
 

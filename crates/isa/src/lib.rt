@@ -1,4 +1,6 @@
 // The instruction set: operations, the table of opcodes, and reading an instruction from a window.
+#![tactic(auto)]
+
 mod code;
 mod decoder;
 mod effect;

@@ -1,5 +1,5 @@
 -- A word is written for one number at most.
-use Rattle.std.proofs.Common.{◌≡◌, ℕ, ◌<◌, ◌≤◌, List, [], ◌∷◌, length, get_or, take, codes, sym, ap, ◌∙◌, inl, inr, arith, length-take, get_or-take}
+use Rattle.std.proofs.Common.{◌≡◌, ℕ, ◌<◌, ◌≤◌, List, length, get_or, take, codes, sym, ap, ◌∙◌, inl, inr, arith, length-take, get_or-take}
 use Rattle.lines.specs.Numerals.{digit_of_lem, Digits, Numeral}
 
 -- no decimal number begins with 0x

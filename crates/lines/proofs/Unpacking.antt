@@ -1,5 +1,5 @@
 -- The values of operands, taken out of the array that they were read into.
-use Rattle.std.proofs.Common.{◌≡◌, ℕ, zero, suc, ◌+◌, ◌<◌, List, [], ◌∷◌, length, get_or, sym, refl, ap, ◌∙◌, subst, add-zero, arith}
+use Rattle.std.proofs.Common.{◌≡◌, ℕ, zero, suc, ◌+◌, ◌<◌, List, [], ◌∷◌, length, get_or, sym, ap, ◌∙◌, subst, add-zero, arith}
 use Rattle.lines.specs.Operands.{Filled, Gives}
 use Rattle.lines.specs.declared.operand.Operand.{Operand}
 use Rattle.lines.specs.declared.operand.Operand.TheVariants.{N}

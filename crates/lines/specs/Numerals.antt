@@ -1,5 +1,5 @@
 -- Numbers as a script writes them.
-use Rattle.std.specs.Prelude.{◌≡◌, ℕ, ◌+◌, ◌-◌, ◌*◌, ◌^◌, ◌<◌, ◌≤◌, cond, ◌⊎◌, List, length, take, drop, codes, fold, nat_lt, slice_index}
+use Rattle.std.specs.Prelude.{◌≡◌, ℕ, ◌+◌, ◌-◌, ◌*◌, ◌^◌, ◌<◌, cond, ◌⊎◌, List, length, take, drop, codes, fold, nat_lt, slice_index}
 
 -- What a byte stands for as a digit: 0 to 9, a to f, A to F; any other byte is no digit of a base up to 16.
 abbrev pub digit_of_lem : ℕ → ℕ

@@ -1,5 +1,5 @@
 -- What an operand takes, and how the words of a line fill the operands of a command.
-use Rattle.std.specs.Prelude.{◌≡◌, ℕ, ◌-◌, ◌^◌, ◌<◌, ◌≤◌, List, [], ◌∷◌, length, codes, slice_index, slice_index_or}
+use Rattle.std.specs.Prelude.{◌≡◌, ℕ, ◌-◌, ◌^◌, ◌<◌, ◌≤◌, List, [], length, codes, slice_index, slice_index_or}
 use Rattle.lines.specs.Numerals.{Numeral}
 use Rattle.lines.specs.declared.operand.Operand.{Operand}
 use Rattle.lines.specs.declared.operand.Operand.TheVariants.{N, M, Off, Max, File, Saved, Size, K, Address, Index, Word, Length}

@@ -1,4 +1,6 @@
 // The lines of a script, and the command that each asks for.
+#![tactic(auto)]
+
 mod command;
 mod digits;
 mod fault;

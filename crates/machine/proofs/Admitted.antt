@@ -1,6 +1,5 @@
 -- What an admitted row keeps to.
-use Rattle.std.proofs.Common.{◌≡◌, ℕ, ◌<◌, ◌≤◌, Bool, true, false, cond, ltb, length, Some, None, Ok, Err, Option, Result, refl, inl, inr, arith}
-use Rattle.std.specs.List.{slice_get}
+use Rattle.std.proofs.Common.{◌≡◌, ℕ, ◌<◌, ◌≤◌, Bool, true, false, cond, ltb, length, Some, None, Ok, Err, Option, refl, inl, inr, arith}
 use Rattle.std.proofs.lemmas.Option.{slice_get_past}
 use Rattle.std.proofs.lemmas.Bool.{cases_lt, ltb-false}
 use Rattle.plan.specs.Plans.{rows_of}
@@ -10,7 +9,6 @@ use Rattle.plan.proofs.Found.{sound}
 use Rattle.machine.specs.States.{State, row_of}
 use Rattle.machine.specs.Outcomes.{admission, row_or}
 use Rattle.machine.specs.Inside.{Inside}
-use Rattle.machine.specs.declared.refusal.Refusal.{Refusal}
 use Rattle.machine.specs.declared.refusal.Refusal.TheVariants as refusal
 
 row_is : (o : Option Row) (r : Row) → row_or o ≡ Ok r → o ≡ Some r

@@ -1,4 +1,6 @@
 // The machine: one memory, a plan of its compartments, and the calls on it.
+#![tactic(auto)]
+
 mod blocks;
 mod machine;
 mod refusal;

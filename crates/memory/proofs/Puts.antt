@@ -1,5 +1,5 @@
 -- Laws of `value_at` and `put_at`, over the number of bytes.
-use Rattle.std.proofs.Common.{◌≡◌, ℕ, zero, suc, ◌+◌, ◌-◌, ◌*◌, ◌/◌, ◌%◌, ◌^◌, ◌<◌, ◌≤◌, ◌≢◌, ◌⊎◌, List, [], ◌∷◌, ◌++◌, length, get_or, take, drop, set, sym, refl, ap, ◌∙◌, inl, inr, ⊎_elim, pow-suc, arith, length-drop, length-set, get_or-drop, get_or-set_other, take-suc, get_or-set_same}
+use Rattle.std.proofs.Common.{◌≡◌, ℕ, zero, suc, ◌+◌, ◌*◌, ◌/◌, ◌%◌, ◌^◌, ◌<◌, ◌≤◌, ◌≢◌, ◌⊎◌, List, [], ◌∷◌, ◌++◌, length, get_or, take, drop, set, sym, refl, ap, ◌∙◌, inl, inr, ⊎_elim, pow-suc, arith, length-drop, length-set, get_or-drop, get_or-set_other, take-suc, get_or-set_same}
 use lib.Arith.{mod-mul}
 use Rattle.std.proofs.lemmas.List.{drop-drop, drop-set-lt, get_or_past, set_past, take-append-drop, take-set-le}
 use Rattle.memory.specs.Bytes.{bytes_of, value_at, put_at}

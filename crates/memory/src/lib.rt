@@ -1,4 +1,6 @@
 // What a memory is, three makes of it, and big-endian access over any of them.
+#![tactic(auto)]
+
 mod access;
 mod flat;
 mod laws;

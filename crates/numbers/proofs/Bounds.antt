@@ -1,9 +1,9 @@
 -- What an instruction makes of qwords is a qword.
-use Rattle.std.proofs.Common.{◌≡◌, ℕ, ◌^◌, ◌<◌, Bool, true, false, cond, List, [], ◌∷◌, reverse, ℤ, pos, negsuc, arith}
+use Rattle.std.proofs.Common.{ℕ, ◌^◌, ◌<◌, Bool, true, false, List, [], ◌∷◌, ℤ, pos, negsuc, arith}
 use mathlib.Core.List.{reverse_aux}
 use native.Mathlib.Nat.{mod-le}
 use Rattle.std.specs.List.{AllByRecursion as All}
-use Rattle.memory.specs.Bytes.{bytes_of, value_at}
+use Rattle.memory.specs.Bytes.{bytes_of}
 use Rattle.memory.specs.Widths.{width_bytes}
 use Rattle.memory.specs.declared.width.Width.{Width}
 use Rattle.memory.specs.declared.width.Width.TheVariants.{Byte, Short, Long, Qword}

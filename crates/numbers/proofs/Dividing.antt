@@ -1,12 +1,12 @@
 -- Quotient and remainder of signed numbers, by those of their sizes.
-use Rattle.std.proofs.Common.{◌≡◌, ℕ, zero, suc, ◌+◌, ◌-◌, ◌*◌, ◌/◌, ◌%◌, ◌^◌, ◌<◌, true, false, cond, ltb, ◌⊎◌, ℤ, pos, negsuc, ◌+ℤ◌, ◌-ℤ◌, ◌*ℤ◌, neg_ℤ, nat_abs, sym, refl, ap, ◌∙◌, inl, inr, mod-lt, mod-eq_of_lt, zero-mul, arith}
+use Rattle.std.proofs.Common.{◌≡◌, ℕ, zero, suc, ◌+◌, ◌-◌, ◌*◌, ◌/◌, ◌%◌, ◌^◌, ◌<◌, ltb, ◌⊎◌, ℤ, pos, negsuc, ◌+ℤ◌, ◌-ℤ◌, ◌*ℤ◌, neg_ℤ, nat_abs, sym, refl, ap, ◌∙◌, inl, inr, mod-lt, mod-eq_of_lt, zero-mul, arith}
 use lib.IntN.{neg_ℤ-+ℤ}
-use lib.Signed.{non_neg, quot_z, rem_z}
+use lib.Signed.{non_neg}
 use Rattle.std.proofs.lemmas.Nat.{div-add-mod'}
 use Rattle.std.proofs.lemmas.Int.{ints}
 use Rattle.std.proofs.lemmas.Bool.{cond_both}
-use Rattle.numbers.specs.Signed.{signed, register}
-use Rattle.numbers.specs.Laws.{Divides, DivisionStands, SignedStands}
+use Rattle.numbers.specs.Signed.{register}
+use Rattle.numbers.specs.Laws.{DivisionStands, SignedStands}
 
 neg_times : (q d : ℕ) → neg_ℤ (pos q) *ℤ pos d ≡ neg_ℤ (pos (q * d))
 neg_times zero d = rw (zero-mul d)

@@ -1,4 +1,6 @@
 // What instructions make of the qwords in registers: shifts, signed division, comparison, extension and reversal.
+#![tactic(auto)]
+
 ghost use Rattle.std.specs.Prelude.{◌≡◌, ◌<◌, if◌then◌else◌, Some, None, nat_eq};
 ghost use Rattle.numbers.specs.Laws.{DivisionStands, SignedStands};
 ghost use Rattle.numbers.specs.Values.{compared, compared_signed, divided, remaining, reversed, shifted_left, shifted_right, sign_extended, zero_extended};

@@ -1,4 +1,6 @@
 // A memory of a make of its own, and a machine over it.
+#![tactic(auto)]
+
 mod client;
 mod page;
 

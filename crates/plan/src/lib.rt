@@ -1,4 +1,6 @@
 // Plans: which bytes of one memory belong to which compartment.
+#![tactic(auto)]
+
 mod bytes;
 mod ground;
 mod laws;

@@ -1,4 +1,6 @@
 // Plays the script on standard input.
+#![tactic(auto)]
+
 use std::io;
 
 fn main(rt: HostRuntime) -> io::Result<()> {

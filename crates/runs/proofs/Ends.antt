@@ -3,13 +3,12 @@ use Rattle.std.proofs.Common.{◌≡◌, ℕ, Bool, true, false, cond, eqb, Some
 use Rattle.isa.specs.Ends.{end_code}
 use Rattle.isa.specs.Effects.{Sources, effect_of}
 use Rattle.isa.specs.Reading.{decoded}
-use Rattle.isa.specs.Steps.{Config, Stepped, P, held, passed, sources_of, performed, stepped}
+use Rattle.isa.specs.Steps.{Config, P, held, passed, sources_of, performed, stepped}
 use Rattle.isa.specs.declared.end.End.{End}
 use Rattle.isa.specs.declared.end.End.TheVariants as end
 use Rattle.isa.specs.declared.operation.Operation.{Operation}
 use Rattle.isa.specs.declared.operation.Operation.TheVariants as op
 use Rattle.isa.specs.declared.instruction.Operands.{Operands}
-use Rattle.isa.specs.declared.instruction.Instruction.{Instruction}
 use Rattle.isa.specs.declared.effect.Effect.{Effect}
 use Rattle.isa.specs.declared.effect.Effect.TheVariants.{Ends, Faults, Nothing, Sets, Jumps, Stacks, Loads, Stores, Pushes, Pops, Calls, Returns}
 use Rattle.runs.specs.Ending.{Leaves, EndsLeave, CodesDiffer}

@@ -1,5 +1,4 @@
 -- What the run of a compartment keeps.
-use Rattle.std.proofs.Common.{◌≡◌, ℕ, List}
 use Rattle.isa.specs.Steps.{Config}
 use Rattle.isa.specs.Runs.{ran}
 use Rattle.isa.specs.Compartments.{started, compartment_ran}

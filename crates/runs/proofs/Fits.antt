@@ -1,8 +1,7 @@
 -- The effect of an instruction on qwords has qwords only.
-use Rattle.std.proofs.Common.{◌≡◌, ℕ, ◌-◌, ◌/◌, ◌%◌, ◌^◌, ◌<◌, Bool, true, false, cond, eqb, ltb, div-le_self, arith}
+use Rattle.std.proofs.Common.{ℕ, ◌^◌, ◌<◌, Bool, true, false, cond, eqb, ltb, div-le_self, arith}
 use native.Mathlib.Nat.{mod-le}
 use lib.Signed.{lt_z}
-use lib.Bits.{bit_and, bit_or, bit_xor}
 use Rattle.std.proofs.lemmas.Nat.{and_le_l, or_lt, xor_lt}
 use Rattle.numbers.specs.Signed.{signed}
 use Rattle.numbers.proofs.Bounds.{register_below, ordered_below, zero_extended_below, reversed_below}

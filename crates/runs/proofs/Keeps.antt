@@ -1,27 +1,24 @@
 -- What a step keeps, and so a run.
-use Rattle.std.proofs.Common.{◌≡◌, ℕ, zero, suc, ◌+◌, ◌%◌, ◌^◌, ◌<◌, ◌≤◌, List, length, get_or, set, Some, None, Option, sym, refl, ap, ◌∙◌, subst, arith}
-use Rattle.std.specs.List.{AllByRecursion as All}
+use Rattle.std.proofs.Common.{◌≡◌, ℕ, zero, suc, ◌+◌, ◌^◌, ◌<◌, List, length, Some, None, Option, sym, refl, ◌∙◌, subst, arith}
 use Rattle.std.proofs.ByRecursion.{All-set}
 use Rattle.memory.specs.Widths.{width_bytes}
 use Rattle.memory.specs.declared.width.Width.{Width}
-use Rattle.memory.specs.declared.width.Width.TheVariants.{Byte, Long, Qword}
+use Rattle.memory.specs.declared.width.Width.TheVariants.{Long, Qword}
 use Rattle.memory.proofs.Bounds.{all_at, all_put_at, value_at_below}
 use Rattle.numbers.proofs.Bounds.{width_below}
 use Rattle.isa.specs.Windows.{load, store, placed}
 use Rattle.isa.specs.Opcodes.{entry_of}
 use Rattle.isa.specs.Reading.{operands_at, instruction_of, decoded}
-use Rattle.isa.specs.Effects.{Sources, effect_of}
-use Rattle.isa.specs.Steps.{Config, Stepped, P, S, held, taking, storing, pushing, popping, passed, sources_of, performed, stepped}
-use Rattle.isa.specs.Runs.{Ran, ran_on, ran}
+use Rattle.isa.specs.Steps.{Config, P, S, held, taking, storing, pushing, popping, passed, sources_of, performed, stepped}
+use Rattle.isa.specs.Runs.{Ran, ran_on}
 use Rattle.isa.specs.declared.end.End.{End}
 use Rattle.isa.specs.declared.form.Form.{Form}
 use Rattle.isa.specs.declared.form.Form.TheVariants.{Plain, One, Two, Three, Five, Literal, Address, Offset, Far}
-use Rattle.isa.specs.declared.instruction.Operands.{Operands}
 use Rattle.isa.specs.declared.effect.Effect.{Effect}
 use Rattle.isa.specs.declared.effect.Effect.TheVariants.{Ends, Faults, Nothing, Sets, Jumps, Stacks, Loads, Stores, Pushes, Pops, Calls, Returns}
 use Rattle.runs.specs.Keeping.{Bytes, Qwords, Keeps, RunsKeep}
 use Rattle.isa.proofs.Lengths.{same_stepped}
-use Rattle.runs.proofs.Fits.{Fit, FitSources, fit}
+use Rattle.runs.proofs.Fits.{Fit, fit}
 use Rattle.isa.proofs.Going.{ran_goes, ran_ends, ran_spent}
 
 -- accesses to a window of bytes

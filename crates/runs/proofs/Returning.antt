@@ -1,12 +1,12 @@
 -- A value that went onto the stack, back from it.
-use Rattle.std.proofs.Common.{◌≡◌, ℕ, ◌+◌, ◌-◌, ◌%◌, ◌^◌, ◌<◌, ◌≤◌, leb, ◌≢◌, List, length, get_or, set, sym, refl, ap, ◌∙◌, mod-eq_of_lt, arith}
-use Rattle.std.proofs.lemmas.List.{length-set, get_or-set_same, get_or-set_other, set-set, set_comm, set-get_or}
+use Rattle.std.proofs.Common.{◌≡◌, ℕ, ◌+◌, ◌%◌, ◌^◌, ◌<◌, ◌≤◌, ◌≢◌, List, length, get_or, set, refl, ap, ◌∙◌, mod-eq_of_lt, arith}
+use Rattle.std.proofs.lemmas.List.{get_or-set_same, get_or-set_other, set-set, set_comm, set-get_or}
 use Rattle.memory.specs.Bytes.{value_at, put_at}
 use Rattle.memory.proofs.Puts.{length-put_at, value_at-put_at}
 use Rattle.numbers.specs.Values.{plus, minus}
 use Rattle.isa.specs.Windows.{load, store, placed}
-use Rattle.isa.specs.Steps.{Config, P, S, held, taking, storing, pushing, popping}
-use Rattle.runs.specs.Stack.{Fits, PopsReturn, CallsReturn}
+use Rattle.isa.specs.Steps.{Config, P, S, held, taking, pushing, popping}
+use Rattle.runs.specs.Stack.{PopsReturn, CallsReturn}
 use Rattle.runs.proofs.Placing.{placed_fits}
 
 -- what is stored where it fits is loaded there again

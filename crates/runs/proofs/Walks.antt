@@ -1,11 +1,10 @@
 -- Runs and chains of instructions.
-use Rattle.std.proofs.Common.{◌≡◌, ℕ, zero, suc, ◌+◌, ◌-◌, ◌<◌, ◌≤◌, ◌⊎◌, Some, None, Option, sym, refl, ap, ◌∙◌, subst, inl, inr, ⊎_elim, arith}
+use Rattle.std.proofs.Common.{◌≡◌, ℕ, zero, suc, ◌+◌, ◌-◌, ◌<◌, ◌⊎◌, Some, None, Option, sym, refl, ap, ◌∙◌, subst, inl, inr, ⊎_elim, arith}
 use Rattle.isa.specs.Steps.{Config, Stepped, stepped}
 use Rattle.isa.specs.Runs.{Ran, ran_on, ran}
 use Rattle.isa.specs.declared.end.End.{End}
 use Rattle.isa.specs.declared.end.End.TheVariants.{Budget}
-use Rattle.runs.specs.Chains.{Goes, EndsWith, Leads, ChainsDecide, AllChainsDecide, LargerAgree, CountWithin}
-use Rattle.runs.specs.Ending.{Leaves}
+use Rattle.runs.specs.Chains.{Goes, Leads, AllChainsDecide, LargerAgree, CountWithin}
 use Rattle.isa.proofs.Going.{ran_goes, ran_ends, ran_spent}
 use Rattle.runs.proofs.Ends.{ends_leave_lem}
 

@@ -1,7 +1,7 @@
 -- A run as a chain of instructions, and what a chain says of the run of a budget.
 use Rattle.std.specs.Prelude.{◌≡◌, ℕ, zero, suc, ◌+◌, ◌<◌, ◌≤◌, Some, None, ◌≢◌}
 use Rattle.isa.specs.Steps.{Config, stepped}
-use Rattle.isa.specs.Runs.{Ran, ran}
+use Rattle.isa.specs.Runs.{ran}
 use Rattle.isa.specs.declared.end.End.{End}
 use Rattle.isa.specs.declared.end.End.TheVariants.{Budget}
 

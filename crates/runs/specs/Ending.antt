@@ -1,5 +1,5 @@
 -- What an instruction that ends the run leaves.
-use Rattle.std.specs.Prelude.{◌≡◌, ℕ, Some}
+use Rattle.std.specs.Prelude.{◌≡◌, Some}
 use Rattle.isa.specs.Ends.{end_code}
 use Rattle.isa.specs.Reading.{decoded}
 use Rattle.isa.specs.Steps.{Config, P, held, passed, stepped}

@@ -1,4 +1,6 @@
 // Laws over whole runs. Each is the contract of a function, so that the check asks for its proof.
+#![tactic(auto)]
+
 ghost use Rattle.runs.specs.Chains.{AllChainsDecide, CountWithin, LargerAgree};
 ghost use Rattle.runs.specs.Ending.{CodesDiffer, EndsLeave};
 ghost use Rattle.runs.specs.Keeping.{FilesKeep, RunsKeep};

@@ -1,4 +1,6 @@
 // Scripts: performing the command that a line asks for, and writing its answer.
+#![tactic(auto)]
+
 mod answer;
 mod machines;
 mod play;

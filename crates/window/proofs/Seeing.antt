@@ -1,9 +1,8 @@
 -- What is seen of a memory, and what replacing it leaves.
-use Rattle.std.proofs.Common.{◌≡◌, ℕ, zero, suc, ◌+◌, ◌-◌, ◌*◌, ◌/◌, ◌%◌, ◌<◌, ◌≤◌, List, [], ◌∷◌, ◌++◌, length, get_or, take, drop, set, sym, refl, ap, ◌∙◌, add-zero, arith}
-use lib.Seq.{sets, sets-eq, length-sets}
+use Rattle.std.proofs.Common.{◌≡◌, ℕ, zero, suc, ◌+◌, ◌-◌, ◌*◌, ◌/◌, ◌%◌, ◌<◌, ◌≤◌, List, ◌++◌, length, get_or, take, drop, set, sym, refl, ap, ◌∙◌, add-zero, arith}
+use lib.Seq.{sets-eq, length-sets}
 use Rattle.std.proofs.lemmas.List.{append_assoc, length-append, length-set, length-take, length-drop, take-append-drop, take_at, drop_at, drop-drop, get_or-take, get_or-drop, set-append_left, set-append_right}
 use Rattle.memory.specs.Bytes.{value_at, put_at}
-use Rattle.memory.proofs.Puts.{length-put_at}
 use Rattle.isa.specs.Windows.{placed, load, store}
 use Rattle.window.specs.declared.extent.Extent.{Extent}
 use Rattle.window.specs.Views.{seen, replaced, Whole}

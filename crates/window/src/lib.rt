@@ -1,4 +1,6 @@
 // A window over any memory: loads and stores that all happen inside of it.
+#![tactic(auto)]
+
 mod access;
 mod extent;
 mod view;

@@ -1,4 +1,4 @@
-use Rattle.std.proofs.Common.{arith, rules}
+use Rattle.std.proofs.Common.{rules}
 use Rattle.compartment.proofs.Entries.{none_back, left_back, kept_back, all_back}
 use Rattle.compartment.proofs.file.put_back.Goals as goal
 use Rattle.compartment.proofs.file.put_back.Goals.{then-lasts, else-lasts}

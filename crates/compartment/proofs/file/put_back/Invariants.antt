@@ -1,4 +1,4 @@
-use Rattle.std.proofs.Common.{◌≡◌, ℕ, ◌≤◌, length}
+use Rattle.std.proofs.Common.{◌≡◌}
 use Rattle.bank.specs.Banks.{words_of}
 use Rattle.window.specs.Views.{seen, replaced}
 use Rattle.compartment.proofs.Entries.{filed_to}

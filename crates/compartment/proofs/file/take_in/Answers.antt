@@ -1,4 +1,4 @@
-use Rattle.std.proofs.Common.{◌≡◌, ℕ, cond, ◌≢◌, List, get_or, sym, ap, ◌∙◌, arith, rules, below_more}
+use Rattle.std.proofs.Common.{◌≡◌, ℕ, cond, ◌≢◌, List, get_or, ap, ◌∙◌, arith, rules, below_more}
 use Rattle.std.proofs.lemmas.List.FromFn.{fill_by_all}
 use Rattle.std.proofs.lemmas.List.{get_or-set_same, get_or-set_other}
 use Rattle.bank.specs.Banks.{words_of}
@@ -12,8 +12,8 @@ loop-index-preserved g c =
     let f : ℕ → ℕ = λ k. cond (keeps c.args.saved k) (entry_value file k) 0 in
     let words = words_of c.loop-index.bank in
     let i = c.loop-index.index in
-    let set_is = c.set-word.ensures.words in (
-      below_more (λ k. get_or (words_of c.set-word.new.self) k 0 ≡ f k) i
+    let set_is = c.set_word.ensures.words in (
+      below_more (λ k. get_or (words_of c.set_word.new.self) k 0 ≡ f k) i
           (λ k h.
           let ne : k ≢ i = λ e. omega arith in
           ap (λ (x : List ℕ). get_or x k 0) set_is ∙ get_or-set_other words i k c.first.result 0 ne ∙ c.loop-index.invariant.0 k h)

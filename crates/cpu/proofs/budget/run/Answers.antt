@@ -1,4 +1,4 @@
-use Rattle.std.proofs.Common.{◌≡◌, ◌+◌, ◌≤◌, List, length, sym, ap, ◌∙◌, arith, rules}
+use Rattle.std.proofs.Common.{◌≡◌, ◌+◌, sym, ap, ◌∙◌, arith, rules}
 use Rattle.bank.specs.Banks.{words_of}
 use Rattle.isa.specs.Runs.{Ran, ran}
 use Rattle.window.specs.Views.{seen, replaced, Whole}
@@ -21,7 +21,7 @@ loop-count-preserved g c =
     let rs = words_of c.loop-count.bank in
     let rs' = words_of c.step.new.bank in
     let whole : Whole bs e = omega (arith, c.loop-count.invariant.2, c.requires) in (
-      sym (run_more e bs bs' rs rs' whole c.step.ensures.bytes c.step.ensures.words c.args.budget c.loop-count.count (omega arith) c.step.result c.step.ensures.end c.in-default.is)
+      sym (run_more e bs bs' rs rs' whole c.step.ensures.bytes c.step.ensures.words c.args.budget c.loop-count.count (omega arith) c.step.result c.step.ensures.end c.in_default.is)
           ∙ c.loop-count.invariant.0,
       frame_more e bs bs' rs rs' whole c.step.ensures.bytes c.step.ensures.words (g.M.Memory.bytes c.args.memory.now) c.requires c.loop-count.invariant.1,
       c.step.ensures.size ∙ c.loop-count.invariant.2,

@@ -1,4 +1,3 @@
-use Rattle.std.proofs.Common.{arith}
 use Rattle.isa.specs.Opcodes.{opcodes}
 use Rattle.isa.proofs.Entries.{entry_is, instruction_is}
 use Rattle.isa.proofs.decoder.known.Goals as goal
@@ -6,4 +5,4 @@ use Rattle.isa.proofs.decoder.known.Goals as goal
 pub returns : goal.returns
 unfolding opcodes
 returns g c =
-    instruction_is (g.C.Code.shown c.args.code.now) c.args.p (entry_is g.row.K _ c.requires.listed) c.read-operands.ensures
+    instruction_is (g.C.Code.shown c.args.code.now) c.args.p (entry_is g.row.K _ c.requires.listed) c.read_operands.ensures

@@ -23,5 +23,5 @@ behind_0x w ds r e zero-first x long h =
 
 pub returns-then-word-eq120 : goal.returns-then-word-eq120
 returns-then-word-eq120 c =
-    behind_0x c.args.word.now _ c.value-in.result c.split-at.ensures.back c.if-word-eq48.true c.if-word-eq120.true c.if-word-ge2.true
-    c.value-in.ensures
+    behind_0x c.args.word.now _ c.value_in.result c.split_at.ensures.back c.if-word-eq48.true c.if-word-eq120.true c.if-word-ge2.true
+    c.value_in.ensures

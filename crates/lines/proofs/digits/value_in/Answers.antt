@@ -1,4 +1,4 @@
-use Rattle.std.proofs.Common.{◌≡◌, ℕ, zero, suc, ◌+◌, ◌*◌, ◌^◌, ◌<◌, ◌≤◌, List, length, get_or, take, sym, ap, ◌∙◌, mul-le-mul_left, mul-suc, arith, below_more}
+use Rattle.std.proofs.Common.{◌≡◌, ℕ, zero, suc, ◌+◌, ◌*◌, ◌^◌, ◌<◌, ◌≤◌, get_or, take, sym, ap, ◌∙◌, mul-le-mul_left, mul-suc, arith, below_more}
 use Rattle.std.proofs.lemmas.List.{take_all}
 use Rattle.std.proofs.lemmas.Bool.{eqb-false}
 use Rattle.std.proofs.lemmas.List.Sums.{fold_more}
@@ -20,8 +20,8 @@ loop-b-preserved c =
     let base = c.args.base in
     let i = c.loop-b.b-index in
     let v = c.loop-b.value in
-    let d = c.digit-of-digit.result in
-    let is : d ≡ digit_of_lem (get_or ds i 0) = c.digit-of-digit.ensures in
+    let d = c.digit_of-digit.result in
+    let is : d ≡ digit_of_lem (get_or ds i 0) = c.digit_of-digit.ensures in
     let more : value_in_lem base (take (i + 1) ds) ≡ value_in_lem base (take i ds) * base + digit_of_lem (get_or ds i 0) = fold_more _ 0 ds i 0 c.loop-b-test.true in
     let here : digit_of_lem (get_or ds i 0) < base = omega arith in
     elim c.if-value-lt-END.branch [
@@ -41,7 +41,7 @@ returns-then-value-lt-END-2 c =
     let ds = c.args.digits.now in
     let all = take_all c.loop-b.b-index ds c.loop-b-test.false in (
       c.if-value-lt-END-2.true,
-      (omega (arith, eqb-false _ _ (sym c.if-is-empty.ensures)), λ k h. c.loop-b.invariant.0 k (omega arith)),
+      (omega (arith, eqb-false _ _ (sym c.if-is_empty.ensures)), λ k h. c.loop-b.invariant.0 k (omega arith)),
       ap (value_in_lem c.args.base) (sym all) ∙ c.loop-b.invariant.1 c.if-value-lt-END-2.true,
     )
 

@@ -1,4 +1,4 @@
-use Rattle.std.proofs.Common.{◌≡◌, ℕ, ◌+◌, ◌*◌, ◌^◌, ◌<◌, ◌≤◌, get_or, take}
+use Rattle.std.proofs.Common.{◌≡◌, ℕ, ◌^◌, ◌<◌, ◌≤◌, get_or, take}
 use Rattle.lines.specs.Numerals.{digit_of_lem, value_in_lem}
 use Rattle.lines.proofs.digits.value_in.Given as goal
 

@@ -1,4 +1,4 @@
-use Rattle.std.proofs.Common.{◌≡◌, ℕ, zero, suc, ◌+◌, ◌*◌, ◌/◌, ◌%◌, ◌<◌, ◌≤◌, List, [], ◌∷◌, ◌++◌, length, get_or, take, vec_items, sym, refl, ap, ◌∙◌, arith}
+use Rattle.std.proofs.Common.{◌≡◌, ℕ, zero, suc, ◌+◌, ◌*◌, ◌/◌, ◌%◌, ◌<◌, ◌≤◌, List, [], ◌∷◌, ◌++◌, length, get_or, take, sym, refl, ap, ◌∙◌, arith}
 use Rattle.std.proofs.lemmas.Bool.Decides.{nat_tests}
 use Rattle.lines.specs.Hexadecimal.{hex_bytes}
 use Rattle.lines.specs.Numerals.{digit_of_lem}
@@ -28,18 +28,18 @@ pairs_all (a ∷ b ∷ ds) (suc n) e =
 digit_small : (b : ℕ) → digit_of_lem b ≤ 16
 digit_small b = grind (arith, nat_tests)
 
-pub overflow-add-pair : goal.overflow-add-pair
-overflow-add-pair c =
-    omega (arith, c.digit-of.ensures, c.digit-of-in-loop-i.ensures, digit_small (get_or c.args.hex.now (2 * c.loop-i.i) 0), digit_small (get_or c.args.hex.now (2 * c.loop-i.i + 1) 0))
+pub overflow_add-pair : goal.overflow_add-pair
+overflow_add-pair c =
+    omega (arith, c.digit_of.ensures, c.digit_of-in-loop-i.ensures, digit_small (get_or c.args.hex.now (2 * c.loop-i.i) 0), digit_small (get_or c.args.hex.now (2 * c.loop-i.i + 1) 0))
 
 pub loop-i-preserved : goal.loop-i-preserved
 loop-i-preserved c =
     let hex = c.args.hex.now in
     let i = c.loop-i.i in
-    c.in-ok-push.ensures.items
-    ∙ ap (λ (bs : List ℕ). bs ++ ((c.digit-of.result * 16 + c.digit-of-in-loop-i.result) % 256) ∷ []) c.loop-i.invariant
-    ∙ ap (λ (d : ℕ). hex_bytes (take (2 * i) hex) ++ ((d * 16 + c.digit-of-in-loop-i.result) % 256) ∷ []) c.digit-of.ensures
-    ∙ ap (λ (d : ℕ). hex_bytes (take (2 * i) hex) ++ ((digit_of_lem (get_or hex (2 * i) 0) * 16 + d) % 256) ∷ []) c.digit-of-in-loop-i.ensures
+    c.in_ok-push.ensures.items
+    ∙ ap (λ (bs : List ℕ). bs ++ ((c.digit_of.result * 16 + c.digit_of-in-loop-i.result) % 256) ∷ []) c.loop-i.invariant
+    ∙ ap (λ (d : ℕ). hex_bytes (take (2 * i) hex) ++ ((d * 16 + c.digit_of-in-loop-i.result) % 256) ∷ []) c.digit_of.ensures
+    ∙ ap (λ (d : ℕ). hex_bytes (take (2 * i) hex) ++ ((digit_of_lem (get_or hex (2 * i) 0) * 16 + d) % 256) ∷ []) c.digit_of-in-loop-i.ensures
     ∙ sym (pair_more hex i (omega arith))
 
 pub returns : goal.returns

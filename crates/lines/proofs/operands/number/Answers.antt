@@ -1,4 +1,4 @@
-use Rattle.std.proofs.Common.{◌≡◌, ℕ, List, sym, subst, arith}
+use Rattle.std.proofs.Common.{◌≡◌, ℕ, List, subst, arith}
 use Rattle.lines.specs.Numerals.{Numeral}
 use Rattle.lines.proofs.Numbers.{one_number}
 use Rattle.lines.proofs.operands.number.Goals as goal

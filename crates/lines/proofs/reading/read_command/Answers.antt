@@ -1,6 +1,6 @@
-use Rattle.std.proofs.Common.{◌≡◌, ℕ, Bool, true, false, List, [], ◌∷◌, get_or, take, drop, is_err, Ok, Err, Decides, Option, Result, sym, ap, ◌∙◌, subst, arith}
+use Rattle.std.proofs.Common.{◌≡◌, ℕ, Bool, true, false, List, [], ◌∷◌, get_or, take, drop, is_err, Ok, Err, eqb, Option, Result, sym, ap, ◌∙◌, subst, arith}
 use borrow.Author.Tests.{both_ways}
-use Rattle.std.specs.Cmp.Lexicographic.{Matches}
+use Rattle.std.specs.Cmp.Lexicographic.{pointwise}
 use Rattle.std.proofs.lemmas.Slice.Eq.{starts_is}
 use Rattle.lines.specs.Commands.{Asks, Behind, Reads, Silent, Unreadable}
 use Rattle.lines.specs.Keywords.{command_text}
@@ -17,7 +17,7 @@ begins [] mark is e = absurd (omega arith)
 begins (x ∷ xs) mark is e = ap (λ (n : ℕ). n ∷ xs) (omega arith)
 
 -- a line whose first word does not begin with #
-module _ (words rest : List (List ℕ)) (word : List ℕ) (r : Bool) (mark : ℕ) (b : words ≡ word ∷ rest) (m : Matches (λ (a b : ℕ) (t : Bool). Decides t (a ≡ b)) (mark ∷ []) (take 1 word) r) (off : r ≡ false) (is : mark ≡ 35) where
+module _ (words rest : List (List ℕ)) (word : List ℕ) (r : Bool) (mark : ℕ) (b : words ≡ word ∷ rest) (m : r ≡ pointwise eqb (mark ∷ []) (take 1 word)) (off : r ≡ false) (is : mark ≡ 35) where
   not-silent : Silent words → ⊥
   not-silent silent =
       let first : get_or word 0 0 ≡ 35 = subst Silent b silent in
@@ -27,10 +27,10 @@ module _ (words rest : List (List ℕ)) (word : List ℕ) (r : Bool) (mark : ℕ
   no-command : ((k : CommandWord) → word ≡ command_text k → ⊥) → Unreadable words
   no-command none = (not-silent, λ c a. let e = a.2 in none a.0 (cc))
 
-pub returns-in-default-of : goal.returns-in-default-of
-returns-in-default-of c =
-    no-command _ _ _ _ _ (ap words_of (sym c.new-words.ensures) ∙ c.in-Some.ensures) c.starts-with.ensures.value c.if-starts-with.false (omega arith)
-    c.in-default-of.ensures
+pub returns-in_default-of : goal.returns-in_default-of
+returns-in_default-of c =
+    no-command _ _ _ _ _ (ap words_of (sym c.new-words.ensures) ∙ c.in-Some.ensures) c.starts_with.ensures.value c.if-starts_with.false (omega arith)
+    c.in_default-of.ensures
 
 -- the words behind the command's name do not ask for it
 nothing_behind : (words rest : List (List ℕ)) (word : List ℕ) (k : CommandWord) → words ≡ word ∷ rest → word ≡ command_text k → ((c : Command) → Behind k rest c → ⊥) → (c : Command) → Asks words c → ⊥
@@ -44,10 +44,10 @@ reads_fault : (words : List (List ℕ)) (r : Result (Option Command) Fault) → 
 reads_fault words (Ok o) e h = let z : ◌≡◌ {A = ℕ} 0 1 = cc in absurd (omega arith)
 reads_fault words (Err f) e h = h
 
-pub returns-in-err-read-rest : goal.returns-in-err-read-rest
-returns-in-err-read-rest c =
+pub returns-in_err-read_rest : goal.returns-in_err-read_rest
+returns-in_err-read_rest c =
     let words = ap words_of (sym c.new-words.ensures) ∙ c.in-Some.ensures in
-    reads_fault _ c.from-residual.result c.from-residual.ensures.0 (
-      not-silent _ _ _ _ _ words c.starts-with.ensures.value c.if-starts-with.false (omega arith),
-      nothing_behind _ _ _ _ words c.in-Some-of.ensures c.in-err-read-rest.ensures,
+    reads_fault _ c.from_residual.result c.from_residual.ensures.0 (
+      not-silent _ _ _ _ _ words c.starts_with.ensures.value c.if-starts_with.false (omega arith),
+      nothing_behind _ _ _ _ words c.in-Some-of.ensures c.in_err-read_rest.ensures,
     )

@@ -1,4 +1,4 @@
-use Rattle.std.proofs.Common.{◌≡◌, List, [], ◌∷◌, refl}
+use Rattle.std.proofs.Common.{[], ◌∷◌, refl}
 use Rattle.lines.specs.Lines.{words_of}
 use Rattle.lines.specs.declared.keyword.CommandWord.TheVariants as first
 use Rattle.lines.specs.declared.operand.Operand.TheVariants as operand
@@ -6,12 +6,12 @@ use Rattle.lines.proofs.Rests.{rest_fails}
 use Rattle.lines.proofs.Unpacking.{filled_unpacked}
 use Rattle.lines.proofs.reading.read_fetch.Goals as goal
 
-pub returns-in-err-k : goal.returns-in-err-k
-returns-in-err-k c =
-    rest_fails first.Fetch (words_of c.args.words.now.rest.now) c.from-residual.result c.from-residual.ensures.0
-    (λ _ b. c.in-err-k.ensures (b.0 ∷ b.1 ∷ b.2 ∷ []) b.4)
+pub returns-in_err-k : goal.returns-in_err-k
+returns-in_err-k c =
+    rest_fails first.Fetch (words_of c.args.words.now.rest.now) c.from_residual.result c.from_residual.ensures.0
+    (λ _ b. c.in_err-k.ensures (b.0 ∷ b.1 ∷ b.2 ∷ []) b.4)
 
 pub returns : goal.returns
 returns c =
-    let filled = filled_unpacked (operand.K ∷ operand.Address ∷ operand.Length ∷ []) (words_of c.args.words.now.rest.now) _ 3 refl c.in-ok-k.ensures in
+    let filled = filled_unpacked (operand.K ∷ operand.Address ∷ operand.Length ∷ []) (words_of c.args.words.now.rest.now) _ 3 refl c.in_ok-k.ensures in
     (_, _, _, refl, filled)

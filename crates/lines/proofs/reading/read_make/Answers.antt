@@ -1,11 +1,9 @@
-use Rattle.std.proofs.Common.{◌≡◌, ℕ, List, [], ◌∷◌, sym, refl, ap, ◌∙◌, subst}
+use Rattle.std.proofs.Common.{◌≡◌, ℕ, List, [], ◌∷◌, ap, ◌∙◌, subst}
 use Rattle.std.proofs.lemmas.Result.{MatchResult-from_err}
 use Rattle.lines.specs.Commands.{AsksMake, BehindMake}
 use Rattle.lines.specs.Keywords.{make_text}
-use Rattle.lines.specs.Operands.{Filled}
 use Rattle.lines.specs.declared.keyword.MakeWord.{MakeWord}
 use Rattle.lines.specs.declared.keyword.MakeWord.TheVariants as second
-use Rattle.lines.specs.declared.operand.Operand.TheVariants.{N, M}
 use Rattle.lines.specs.declared.command.MemoryMake.{MemoryMake}
 use Rattle.lines.proofs.Texts.{same_make}
 use Rattle.lines.proofs.reading.read_make.Goals as goal
@@ -18,23 +16,23 @@ module _ (words rest : List (List ℕ)) (word : List ℕ) (k : MakeWord) (b : wo
       let same : ws ≡ rest = cc in
       subst (λ (i : MakeWord). BehindMake i rest m) (same_make j k texts) (subst (λ (vs : List (List ℕ)). BehindMake j vs m) same h)
 
-pub returns-in-err-n : goal.returns-in-err-n
-returns-in-err-n c =
-    MatchResult-from_err c.from-residual.result _ _ c.from-residual.ensures.0
+pub returns-in_err-n-in-Flat : goal.returns-in_err-n-in-Flat
+returns-in_err-n-in-Flat c =
+    MatchResult-from_err c.from_residual.result _ _ c.from_residual.ensures.0
     (λ _ m a.
     let h = behind _ _ _ second.Flat c.in-Some.ensures (c.in-Some-of.ensures ∙ ap make_text c.in-Flat.is) m a in
-    c.in-err-n.ensures (h.0 ∷ []) h.2)
+    c.in_err-n-in-Flat.ensures (h.0 ∷ []) h.2)
 
-pub returns-in-err-n-2 : goal.returns-in-err-n-2
-returns-in-err-n-2 c =
-    MatchResult-from_err c.from-residual-in-err-n-2.result _ _ c.from-residual-in-err-n-2.ensures.0
+pub returns-in_err-n-in-Words : goal.returns-in_err-n-in-Words
+returns-in_err-n-in-Words c =
+    MatchResult-from_err c.from_residual-in_err-n-in-Words.result _ _ c.from_residual-in_err-n-in-Words.ensures.0
     (λ _ m a.
     let h = behind _ _ _ second.Words c.in-Some.ensures (c.in-Some-of.ensures ∙ ap make_text c.in-Words.is) m a in
-    c.in-err-n-2.ensures (h.0 ∷ []) h.2)
+    c.in_err-n-in-Words.ensures (h.0 ∷ []) h.2)
 
-pub returns-in-err-n-3 : goal.returns-in-err-n-3
-returns-in-err-n-3 c =
-    MatchResult-from_err c.from-residual-in-err-n-3.result _ _ c.from-residual-in-err-n-3.ensures.0
+pub returns-in_err-n-in-Spliced : goal.returns-in_err-n-in-Spliced
+returns-in_err-n-in-Spliced c =
+    MatchResult-from_err c.from_residual-in_err-n-in-Spliced.result _ _ c.from_residual-in_err-n-in-Spliced.ensures.0
     (λ _ m a.
     let h = behind _ _ _ second.Spliced c.in-Some.ensures (c.in-Some-of.ensures ∙ ap make_text c.in-Spliced.is) m a in
-    c.in-err-n-3.ensures (h.0 ∷ h.1 ∷ []) h.3)
+    c.in_err-n-in-Spliced.ensures (h.0 ∷ h.1 ∷ []) h.3)

@@ -17,20 +17,20 @@ returns-then-address-ge-LIMIT g c =
 
 pub returns-in-Byte : goal.returns-in-Byte
 returns-in-Byte g c =
-    let d = to_be_each _ _ (c.to-be-bytes.ensures ∙ to_be _) in
+    let d = to_be_each _ _ (c.to_be_bytes.ensures ∙ to_be _) in
     at_width _ _ _ _ _ _ c.in-Byte.is
     (put_more _ _ 0 _ c.write.ensures.value (omega arith) (omega arith) (put_none _ _ _))
 
 pub returns-in-Short : goal.returns-in-Short
 returns-in-Short g c =
-    let d = to_be_each _ _ (c.to-be-bytes.ensures ∙ to_be _) in
+    let d = to_be_each _ _ (c.to_be_bytes.ensures ∙ to_be _) in
     at_width _ _ _ _ _ _ c.in-Short.is
     (put_more _ _ 1 _ c.write-in-Short.ensures.value (omega arith) (omega arith)
     (put_more _ _ 0 _ c.write-in-Short-2.ensures.value (omega arith) (omega arith) (put_none _ _ _)))
 
 pub returns-in-Long : goal.returns-in-Long
 returns-in-Long g c =
-    let d = to_be_each _ _ (c.to-be-bytes.ensures ∙ to_be _) in
+    let d = to_be_each _ _ (c.to_be_bytes.ensures ∙ to_be _) in
     at_width _ _ _ _ _ _ c.in-Long.is
     (put_more _ _ 3 _ c.write-in-Long.ensures.value (omega arith) (omega arith)
     (put_more _ _ 2 _ c.write-in-Long-2.ensures.value (omega arith) (omega arith)
@@ -39,7 +39,7 @@ returns-in-Long g c =
 
 pub returns-in-Qword : goal.returns-in-Qword
 returns-in-Qword g c =
-    let d = to_be_each _ _ (c.to-be-bytes.ensures ∙ to_be _) in
+    let d = to_be_each _ _ (c.to_be_bytes.ensures ∙ to_be _) in
     at_width _ _ _ _ _ _ c.in-Qword.is
     (put_more _ _ 7 _ c.write-in-Qword.ensures.value (omega arith) (omega arith)
     (put_more _ _ 6 _ c.write-in-Qword-2.ensures.value (omega arith) (omega arith)

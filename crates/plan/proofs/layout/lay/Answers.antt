@@ -15,7 +15,7 @@ loop-i-preserved c =
     let held = c.loop-i.held in
     let x = row_at rows i in
     let l : i < length held = omega (arith, c.loop-i.invariant.2) in (
-      λ g. below_more (λ k. Applies g rows c.args.laid-size k → ⊥) i (c.loop-i.invariant.0 g) (c.in-ok-check-row.ensures g),
+      λ g. below_more (λ k. Applies g rows c.args.laid_size k → ⊥) i (c.loop-i.invariant.0 g) (c.in_ok-check_row.ensures g),
       take_more_set held i x l ∙ ap (λ (xs : List Row). xs ++ x ∷ []) c.loop-i.invariant.1 ∙ sym (take_more rows i _ c.loop-i-test.true),
       length-set held i x ∙ c.loop-i.invariant.2,
     )
@@ -28,7 +28,7 @@ pub of-requires : goal.of-requires
 of-requires c =
     let rows = c.args.rows.now in
     let held = c.loop-i.held in
-    let laid = c.args.laid-size in
+    let laid = c.args.laid_size in
     let same = all_held rows held c.loop-i.i (omega arith) c.loop-i.invariant.1 in
     let clean : (g : Ground) (k : ℕ) → k < length rows → Applies g rows laid k → ⊥ = λ g k l. c.loop-i.invariant.0 g k (omega arith) in
     record {
@@ -45,7 +45,7 @@ returns c =
     let count : c.of.result.count ≡ length rows = omega (arith, c.of.ensures.1) in
     record {
       no_ground = λ g i h.
-          let l : i < length rows = applies_below rows c.args.laid-size i (omega arith) g h in
+          let l : i < length rows = applies_below rows c.args.laid_size i (omega arith) g h in
           c.loop-i.invariant.0 g i (omega arith) h;
       same_rows = simp (c.of.ensures.0, count) (all_held rows held c.loop-i.i (omega arith) c.loop-i.invariant.1);
       same_size = c.of.ensures.2;

@@ -6,6 +6,6 @@ use Rattle.plan.proofs.layout.lay.Given as goal
 
 abbrev pub invariant-loop-i : goal.invariant-loop-i
 invariant-loop-i l =
-    ((g : Ground) (k : ℕ) → k < l.i → Applies g l.rows l.laid-size k → ⊥)
+    ((g : Ground) (k : ℕ) → k < l.i → Applies g l.rows l.laid_size k → ⊥)
     × (take l.i l.held ≡ take l.i l.rows)
     × (length l.held ≡ 16)

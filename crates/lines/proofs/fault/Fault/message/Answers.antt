@@ -1,7 +1,6 @@
-use Rattle.std.proofs.Common.{◌≡◌, ℕ, List, [], ◌++◌, codes, sym, ap, ◌∙◌, append-nil}
+use Rattle.std.proofs.Common.{ℕ, List, ◌++◌, codes, sym, ap, ◌∙◌, append-nil}
 use Rattle.std.proofs.lemmas.Result.{IfOk-weaker}
 use Rattle.lines.specs.Faults.{fault_text}
-use Rattle.lines.specs.Operands.{name_of}
 use Rattle.lines.proofs.fault.Fault.message.Goals as goal
 
 pub returns-in-NoSuchCommand : goal.returns-in-NoSuchCommand
@@ -19,7 +18,7 @@ returns-in-NoSuchMake c =
 pub returns-in-Missing : goal.returns-in-Missing
 returns-in-Missing c =
     IfOk-weaker c.joined-in-Missing.result _ _
-    (λ _ h. h ∙ ap (λ (w : List ℕ). w ++ codes " is missing") (c.as-bytes.ensures.value ∙ c.name.ensures) ∙ ap fault_text (sym c.in-Missing.is))
+    (λ _ h. h ∙ ap (λ (w : List ℕ). w ++ codes " is missing") (c.as_bytes.ensures.value ∙ c.name.ensures) ∙ ap fault_text (sym c.in-Missing.is))
     c.joined-in-Missing.ensures
 
 pub returns-in-TooLarge : goal.returns-in-TooLarge
@@ -27,6 +26,6 @@ returns-in-TooLarge c =
     IfOk-weaker c.joined-in-TooLarge.result _ _
     (λ _ h.
     h
-    ∙ ap (λ (w : List ℕ). w ++ (codes " is too large: " ++ c.in-TooLarge.word.now)) (c.as-bytes-in-TooLarge.ensures.value ∙ c.name-in-TooLarge.ensures)
+    ∙ ap (λ (w : List ℕ). w ++ (codes " is too large: " ++ c.in-TooLarge.word.now)) (c.as_bytes-in-TooLarge.ensures.value ∙ c.name-in-TooLarge.ensures)
     ∙ ap fault_text (sym c.in-TooLarge.is))
     c.joined-in-TooLarge.ensures

@@ -2,29 +2,29 @@ use Rattle.std.proofs.Common.{codes, arith, ltb-false, ltb-true}
 use Rattle.std.proofs.lemmas.Slice.Eq.{text_from_reads}
 use Rattle.lines.proofs.keyword.CommandWord.of.Goals as goal
 
-pub returns-in-114 : goal.returns-in-114
-returns-in-114 c = text_from_reads c.args.word.now (codes "row") (omega (arith, ltb-true, ltb-false)) (omega arith, (omega arith, (omega arith, tt)))
+pub returns-in-row : goal.returns-in-row
+returns-in-row c = text_from_reads c.args.word.now (codes "row") (omega (arith, ltb-true, ltb-false)) (omega arith, (omega arith, (omega arith, tt)))
 
-pub returns-in-108 : goal.returns-in-108
-returns-in-108 c = text_from_reads c.args.word.now (codes "lay") (omega (arith, ltb-true, ltb-false)) (omega arith, (omega arith, (omega arith, tt)))
+pub returns-in-lay : goal.returns-in-lay
+returns-in-lay c = text_from_reads c.args.word.now (codes "lay") (omega (arith, ltb-true, ltb-false)) (omega arith, (omega arith, (omega arith, tt)))
 
-pub returns-in-112 : goal.returns-in-112
-returns-in-112 c = text_from_reads c.args.word.now (codes "put") (omega (arith, ltb-true, ltb-false)) (omega arith, (omega arith, (omega arith, tt)))
+pub returns-in-put : goal.returns-in-put
+returns-in-put c = text_from_reads c.args.word.now (codes "put") (omega (arith, ltb-true, ltb-false)) (omega arith, (omega arith, (omega arith, tt)))
 
-pub returns-in-115 : goal.returns-in-115
-returns-in-115 c = text_from_reads c.args.word.now (codes "set") (omega (arith, ltb-true, ltb-false)) (omega arith, (omega arith, (omega arith, tt)))
+pub returns-in-set : goal.returns-in-set
+returns-in-set c = text_from_reads c.args.word.now (codes "set") (omega (arith, ltb-true, ltb-false)) (omega arith, (omega arith, (omega arith, tt)))
 
-pub returns-in-103 : goal.returns-in-103
-returns-in-103 c = text_from_reads c.args.word.now (codes "get") (omega (arith, ltb-true, ltb-false)) (omega arith, (omega arith, (omega arith, tt)))
+pub returns-in-get : goal.returns-in-get
+returns-in-get c = text_from_reads c.args.word.now (codes "get") (omega (arith, ltb-true, ltb-false)) (omega arith, (omega arith, (omega arith, tt)))
 
-pub returns-in-109 : goal.returns-in-109
-returns-in-109 c = text_from_reads c.args.word.now (codes "memory") (omega (arith, ltb-true, ltb-false)) (omega arith, (omega arith, (omega arith, (omega arith, (omega arith, (omega arith, tt))))))
+pub returns-in-memory : goal.returns-in-memory
+returns-in-memory c = text_from_reads c.args.word.now (codes "memory") (omega (arith, ltb-true, ltb-false)) (omega arith, (omega arith, (omega arith, (omega arith, (omega arith, (omega arith, tt))))))
 
-pub returns-in-109-2 : goal.returns-in-109-2
-returns-in-109-2 c = text_from_reads c.args.word.now (codes "make") (omega (arith, ltb-true, ltb-false)) (omega arith, (omega arith, (omega arith, (omega arith, tt))))
+pub returns-in-make : goal.returns-in-make
+returns-in-make c = text_from_reads c.args.word.now (codes "make") (omega (arith, ltb-true, ltb-false)) (omega arith, (omega arith, (omega arith, (omega arith, tt))))
 
-pub returns-in-102 : goal.returns-in-102
-returns-in-102 c = text_from_reads c.args.word.now (codes "fetch") (omega (arith, ltb-true, ltb-false)) (omega arith, (omega arith, (omega arith, (omega arith, (omega arith, tt)))))
+pub returns-in-fetch : goal.returns-in-fetch
+returns-in-fetch c = text_from_reads c.args.word.now (codes "fetch") (omega (arith, ltb-true, ltb-false)) (omega arith, (omega arith, (omega arith, (omega arith, (omega arith, tt)))))
 
-pub returns-in-114-2 : goal.returns-in-114-2
-returns-in-114-2 c = text_from_reads c.args.word.now (codes "release") (omega (arith, ltb-true, ltb-false)) (omega arith, (omega arith, (omega arith, (omega arith, (omega arith, (omega arith, (omega arith, tt)))))))
+pub returns-in-release : goal.returns-in-release
+returns-in-release c = text_from_reads c.args.word.now (codes "release") (omega (arith, ltb-true, ltb-false)) (omega arith, (omega arith, (omega arith, (omega arith, (omega arith, (omega arith, (omega arith, tt)))))))

@@ -3,8 +3,8 @@ use Rattle.std.proofs.lemmas.List.{set_past}
 use Rattle.memory.specs.Cuts.{length_cut, set-cut, past_set}
 use Rattle.memory.proofs.flat.FlatMemory.write.Goals as goal
 
-pub index-mut-requires : goal.index-mut-requires
-index-mut-requires c = omega (arith, length_cut (vec_items c.args.self.now.held), c.args.self.now.held.ok.0)
+pub index_mut-requires : goal.index_mut-requires
+index_mut-requires c = omega (arith, length_cut (vec_items c.args.self.now.held), c.args.self.now.held.ok.0)
 
 pub returns-then-address-size : goal.returns-then-address-size
 returns-then-address-size c =

@@ -16,7 +16,7 @@ returns-then-address-size c =
     let ws = vec_items c.args.self.now.held in
     let n = length_cut (bytes_of_all ws) in
     let l = length_all ws in
-    let word = c.to-be-bytes-parts.ensures ∙ to_be _ ∙ ap (bytes_of 8) (get_or_read ws _ _ (omega arith) c.index.ensures 0) in
+    let word = c.to_be_bytes-parts.ensures ∙ to_be _ ∙ ap (bytes_of 8) (get_or_read ws _ _ (omega arith) c.index.ensures 0) in
     slice_index_word ws _ _ _ c.args.address word (omega arith) (omega arith) (omega arith)
     ∙ slice_index-cut (bytes_of_all ws) c.args.address refl (omega arith)
 

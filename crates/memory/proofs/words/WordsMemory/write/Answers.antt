@@ -10,8 +10,8 @@ index-requires c =
     let ws = vec_items c.args.self.now.held in
     omega (arith, length_cut (bytes_of_all ws), length_all ws, c.args.self.now.held.ok.0)
 
-pub index-mut-requires : goal.index-mut-requires
-index-mut-requires c =
+pub index_mut-requires : goal.index_mut-requires
+index_mut-requires c =
     let ws = vec_items c.args.self.now.held in
     omega (arith, length_cut (bytes_of_all ws), length_all ws, c.args.self.now.held.ok.0)
 
@@ -22,8 +22,8 @@ returns-then-address-size c =
     let b = c.args.byte in
     let n = length_cut (bytes_of_all ws) in
     let l = length_all ws in
-    let word = c.to-be-bytes-parts.ensures ∙ to_be _ ∙ ap (bytes_of 8) (get_or_read ws _ _ (omega arith) c.index.ensures 0) in
-    let all = set_word ws _ _ _ a word (omega arith) (omega arith) (omega arith) b _ _ (omega arith) (omega arith) (c.from-be-bytes.ensures ∙ from_be _) in
+    let word = c.to_be_bytes-parts.ensures ∙ to_be _ ∙ ap (bytes_of 8) (get_or_read ws _ _ (omega arith) c.index.ensures 0) in
+    let all = set_word ws _ _ _ a word (omega arith) (omega arith) (omega arith) b _ _ (omega arith) (omega arith) (c.from_be_bytes.ensures ∙ from_be _) in
     record {
       value = ap cut all ∙ set-cut (bytes_of_all ws) a b refl refl (omega arith);
       rest = ap past all ∙ past_set (bytes_of_all ws) a b (omega arith);

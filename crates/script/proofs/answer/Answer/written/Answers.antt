@@ -13,11 +13,11 @@ ends xs ys b e f = e ∙ ap (λ (n : ℕ). xs ++ n ∷ []) f
 pub returns : goal.returns
 returns c =
     let line = c.args.line.now in
-    let text : c.as-slice.result.now ≡ answer_text c.args.self.now = c.as-slice.ensures.value ∙ c.in-ok-text.ensures in
-    ends _ _ _ c.in-ok-push.ensures.items (omega arith)
+    let text : c.as_slice.result.now ≡ answer_text c.args.self.now = c.as_slice.ensures.value ∙ c.in_ok-text.ensures in
+    ends _ _ _ c.in_ok-push.ensures.items (omega arith)
     ∙ ap (λ (xs : List ℕ). xs ++ (10 ∷ []))
-    (c.in-ok-extend-from-slice-2.ensures.items
-    ∙ ap (λ (xs : List ℕ). xs ++ c.as-slice.result.now)
-    (c.in-ok-extend-from-slice.ensures.items ∙ ap (λ (xs : List ℕ). xs ++ codes ": ") c.in-ok-out.ensures.items))
+    (c.in_ok-extend_from_slice-2.ensures.items
+    ∙ ap (λ (xs : List ℕ). xs ++ c.as_slice.result.now)
+    (c.in_ok-extend_from_slice.ensures.items ∙ ap (λ (xs : List ℕ). xs ++ codes ": ") c.in_ok-out.ensures.items))
     ∙ ap (λ (xs : List ℕ). ((line ++ codes ": ") ++ xs) ++ (10 ∷ [])) text
     ∙ four line (codes ": ") (answer_text c.args.self.now) (10 ∷ [])

@@ -1,4 +1,4 @@
-use Rattle.std.proofs.Common.{◌≡◌, ℕ, List, ◌++◌, length, take, drop, Ok, Err, vec_items, sym, refl, ap, ◌∙◌, arith}
+use Rattle.std.proofs.Common.{◌≡◌, ℕ, List, ◌++◌, length, take, drop, Ok, Err, sym, refl, ap, ◌∙◌, arith}
 use lib.Seq.{take-append-le}
 use Rattle.std.specs.Vec.{with_items}
 use Rattle.std.proofs.lemmas.List.{take_all}
@@ -19,9 +19,8 @@ whole n xs ys e = take-append-le n xs (drop (length xs) ys) (omega arith) ∙ ta
 
 pub returns-in-Ok-fetch : goal.returns-in-Ok-fetch
 returns-in-Ok-fetch c =
-    let made = c.in-Ok.ensures.made in
-    let long : length c.as-mut-slice.result.now ≡ c.args.size = omega (arith, c.as-mut-slice.ensures.len, made.1) in
-    let kept : length c.fetch.new.buffer ≡ c.in-Ok.buffer.len = omega (arith, c.as-mut-slice.ensures.len, c.fetch.auto.buffer) in (
+    let long : length c.as_mut_slice.result.now ≡ c.args.size = omega (arith, c.as_mut_slice.ensures.len, c.in-Ok.ensures.len) in
+    let kept : length c.fetch.new.buffer ≡ c.in-Ok.buffer.len = omega (arith, c.as_mut_slice.ensures.len, c.fetch.auto.buffer) in (
       ap needs_machine c.in-Made.is,
       (
         c.in-Made.machine,

@@ -1,6 +1,6 @@
 use Rattle.std.proofs.Common.{◌≡◌, ℕ, length, None, refl, ap, ◌∙◌, rules}
 use lib.ListN.{length-replicate}
-use Rattle.script.specs.Sessions.{needs_no_machine, Beside}
+use Rattle.script.specs.Sessions.{needs_no_machine}
 use Rattle.script.specs.Stores.{made_size}
 use Rattle.script.specs.declared.answer.Answer.TheVariants as answer
 use Rattle.script.proofs.session.Session.make_memory.Goals as goal

@@ -1,4 +1,4 @@
-use Rattle.std.proofs.Common.{◌≡◌, ℕ, List, Ok, Err, sym, refl, ap, ◌∙◌}
+use Rattle.std.proofs.Common.{ℕ, List, Ok, Err, sym, refl, ap, ◌∙◌}
 use Rattle.machine.specs.Calls.{Put}
 use Rattle.machine.specs.Outcomes.{outcome}
 use Rattle.script.specs.Sessions.{needs_machine}
@@ -7,7 +7,7 @@ use Rattle.script.proofs.session.Session.put.Goals as goal
 
 pub returns-in-Ok-put : goal.returns-in-Ok-put
 returns-in-Ok-put c =
-    let same = c.as-slice.ensures.value ∙ c.in-Ok.ensures in (
+    let same = c.as_slice.ensures.value ∙ c.in-Ok.ensures in (
       ap needs_machine c.in-Made.is,
       (
         c.in-Made.machine,
@@ -23,7 +23,7 @@ returns-in-Ok-put c =
 
 pub returns : goal.returns
 returns c =
-    let same = c.as-slice.ensures.value ∙ c.in-Ok.ensures in (
+    let same = c.as_slice.ensures.value ∙ c.in-Ok.ensures in (
       ap needs_machine c.in-Made.is,
       (
         c.in-Made.machine,
