@@ -1,6 +1,6 @@
 -- The worked cases, in one list.
 use Rattle.std.specs.Prelude.{ℕ, ◌-◌, ◌^◌, List, [], ◌∷◌}
-use Rattle.std.specs.List.{AllByRecursion as All}
+use Rattle.std.specs.List.{AllByRecursion}
 use Rattle.isa.specs.Steps.{P, S}
 use Rattle.plan.specs.declared.ground.Ground.{Ground}
 use Rattle.plan.specs.declared.ground.Ground.TheVariants.{Outside, Overlap}
@@ -15,7 +15,7 @@ pub data Case : Type 0 where
 abbrev pub Holds : Case → Type 0
 Holds (Runs c) = Comes c
 Holds (Lays file) = Accepted file
-Holds (Refuses ground file) = RefusedBy ground file
+Holds (Refuses g file) = RefusedBy g file
 
 -- Bytes, entries, saved count and budget; code, count, changed bytes and changed entries.
 abbrev pub run : List ℕ → List (ℕ × ℕ) → ℕ → ℕ → ℕ → ℕ → List (ℕ × ℕ) → List (ℕ × ℕ) → Case
@@ -61,4 +61,4 @@ worked =
     []
 
 abbrev pub WorkedHold : Type 0
-WorkedHold = All Holds worked
+WorkedHold = AllByRecursion Holds worked

@@ -1,6 +1,6 @@
 -- A register file piece by piece, eight bytes each: what a run takes from it and writes back.
 use Rattle.std.proofs.Common.{◌≡◌, ℕ, zero, suc, ◌+◌, ◌*◌, ◌^◌, ◌<◌, ◌≤◌, Bool, true, false, cond, List, ◌++◌, length, get_or, take, drop, sym, refl, ap, ◌∙◌, not-suc-le-zero, arith}
-use Rattle.std.specs.List.{range_with_len, flat_map, AllByRecursion as All}
+use Rattle.std.specs.List.{range_with_len, flat_map, AllByRecursion}
 use Rattle.std.proofs.lemmas.List.{length-append, length-take, length-drop, take_at, drop_at, drop-drop}
 use Rattle.std.proofs.ByRecursion.{All-append, All-map, All-take, All-drop}
 use Rattle.std.proofs.lemmas.Bool.Decides.{nat_tests}
@@ -33,11 +33,11 @@ module _ (f : ℕ → List ℕ) where
       ∙ piece (a + 1) n k (λ j b. h j (omega arith)) (omega arith)
       ∙ ap f y
 
-  all-pieces : (Q : ℕ → Type 0) (a n : ℕ) → ((k : ℕ) → All Q (f k)) → All Q (flat_map f (range_with_len a n))
+  all-pieces : (Q : ℕ → Type 0) (a n : ℕ) → ((k : ℕ) → AllByRecursion Q (f k)) → AllByRecursion Q (flat_map f (range_with_len a n))
   all-pieces Q a zero h = tt
   all-pieces Q a (suc n) h = All-append Q (f a) (flat_map f (range_with_len (a + 1) n)) (h a) (all-pieces Q (a + 1) n h)
 
-all_counting : (Q : ℕ → Type 0) (a n : ℕ) → ((k : ℕ) → Q k) → All Q (range_with_len a n)
+all_counting : (Q : ℕ → Type 0) (a n : ℕ) → ((k : ℕ) → Q k) → AllByRecursion Q (range_with_len a n)
 all_counting Q a zero h = tt
 all_counting Q a (suc n) h = (h a, all_counting Q (a + 1) n h)
 
@@ -49,7 +49,7 @@ length_cond : (b : Bool) (xs ys : List ℕ) (n : ℕ) → length xs ≡ n → le
 length_cond true xs ys n p q = p
 length_cond false xs ys n p q = q
 
-all_cond : (Q : ℕ → Type 0) (b : Bool) (xs ys : List ℕ) → All Q xs → All Q ys → All Q (cond b xs ys)
+all_cond : (Q : ℕ → Type 0) (b : Bool) (xs ys : List ℕ) → AllByRecursion Q xs → AllByRecursion Q ys → AllByRecursion Q (cond b xs ys)
 all_cond Q true xs ys p q = p
 all_cond Q false xs ys p q = q
 
@@ -82,13 +82,13 @@ module _ (file : List ℕ) (saved : ℕ) (registers : List ℕ) (full : length f
       filed_entry k (omega arith)
       ∙ ap (λ (b : Bool). cond b (bytes_of 8 (get_or registers k 0)) (entry_bytes file k)) (not_kept saved k h l)
 
-pub bytes_filed : (file : List ℕ) (saved : ℕ) (registers : List ℕ) → All Small file → All Small (filed file saved registers)
+pub bytes_filed : (file : List ℕ) (saved : ℕ) (registers : List ℕ) → AllByRecursion Small file → AllByRecursion Small (filed file saved registers)
 unfolding filed
 bytes_filed file saved registers h =
     all-pieces (written file saved registers) Small 0 258
     (λ k. all_cond Small (keeps saved k) _ _ (all_bytes_of 8 (get_or registers k 0)) (All-take Small 8 _ (All-drop Small (8 * k) file h)))
 
-pub qwords_started : (file : List ℕ) (saved : ℕ) → All Small file → All (λ v. v < 2 ^ 64) (started file saved)
+pub qwords_started : (file : List ℕ) (saved : ℕ) → AllByRecursion Small file → AllByRecursion (λ v. v < 2 ^ 64) (started file saved)
 unfolding started
 qwords_started file saved h =
     let f : ℕ → ℕ = λ k. cond (keeps saved k) (entry_value file k) 0 in

@@ -1,3 +1,4 @@
+pub mod Cuts
 pub mod Digits
 pub mod Puts
 pub mod Bounds

@@ -2,7 +2,7 @@
 use Rattle.std.proofs.Common.{ℕ, ◌^◌, ◌<◌, Bool, true, false, List, [], ◌∷◌, ℤ, pos, negsuc, arith}
 use mathlib.Core.List.{reverse_aux}
 use native.Mathlib.Nat.{mod-le}
-use Rattle.std.specs.List.{AllByRecursion as All}
+use Rattle.std.specs.List.{AllByRecursion}
 use Rattle.memory.specs.Bytes.{bytes_of}
 use Rattle.memory.specs.Widths.{width_bytes}
 use Rattle.memory.specs.declared.width.Width.{Width}
@@ -30,7 +30,7 @@ width_below Qword v h = h
 pub zero_extended_below : (w : Width) (r : ℕ) → r < 2 ^ 64 → zero_extended w r < 2 ^ 64
 zero_extended_below w r h = omega (arith, mod-le r (2 ^ width_bits w))
 
-all_reverse : (P : ℕ → Type 0) (xs ys : List ℕ) → All P xs → All P ys → All P (reverse_aux xs ys)
+all_reverse : (P : ℕ → Type 0) (xs ys : List ℕ) → AllByRecursion P xs → AllByRecursion P ys → AllByRecursion P (reverse_aux xs ys)
 all_reverse P [] ys h k = k
 all_reverse P (x ∷ xs) ys h k = all_reverse P xs (x ∷ ys) h.1 (h.0, k)
 

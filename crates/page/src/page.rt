@@ -1,6 +1,6 @@
 // A memory of one page: its bytes stand in an array.
 ghost use Rattle.std.specs.Prelude.{◌≡◌, length, replicate};
-ghost use Rattle.std.proofs.Common.{rules, arith};
+ghost use Rattle.std.proofs.Common.{rules};
 
 use memory::Memory;
 
@@ -24,7 +24,7 @@ impl Page {
 impl Memory for Page {
     ghost bytes = { λ p. p.cells };
 
-    ghost short = { first_of (Prim.search rules, Prim.grind (arith, Self.row.coded.inj)) };
+    ghost short = { Prim.search rules };
 
     fn size(&self) -> u64 {
         SIZE

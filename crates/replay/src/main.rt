@@ -1,8 +1,12 @@
 // Plays the script on standard input.
 #![tactic(auto)]
 
-use std::io;
+use std::process::ExitCode;
 
-fn main(rt: HostRuntime) -> io::Result<()> {
-    script::play_script(&rt)
+// An error is a status here and no text: `play_script` has written what stops a line.
+fn main(rt: HostRuntime) -> ExitCode {
+    match script::play_script(&rt) {
+        Ok(()) => ExitCode::SUCCESS,
+        Err(_) => ExitCode::FAILURE,
+    }
 }

@@ -1,15 +1,15 @@
 -- What a run keeps: the lengths of window, registers and register file, and that bytes and qwords are such.
 use Rattle.std.specs.Prelude.{◌≡◌, ℕ, ◌^◌, ◌<◌, ◌≤◌, List, length}
-use Rattle.std.specs.List.{AllByRecursion as All}
+use Rattle.std.specs.List.{AllByRecursion}
 use Rattle.isa.specs.Steps.{Config}
 use Rattle.isa.specs.Runs.{ran}
 use Rattle.isa.specs.Compartments.{entry_bytes, compartment_ran}
 
 abbrev pub Bytes : List ℕ → Type 0
-Bytes bs = All (λ b. b < 256) bs
+Bytes bs = AllByRecursion (λ b. b < 256) bs
 
 abbrev pub Qwords : List ℕ → Type 0
-Qwords vs = All (λ v. v < 2 ^ 64) vs
+Qwords vs = AllByRecursion (λ v. v < 2 ^ 64) vs
 
 pub record Keeps (c d : Config) : Type 0 where
   pub same_window : length d.window ≡ length c.window

@@ -1,7 +1,7 @@
 use Rattle.std.proofs.Common.{vec_items, ◌∙◌, arith}
 use Rattle.std.proofs.lemmas.List.{get_or_past, get_or_read}
 use Rattle.memory.specs.Makes.{flat_bytes}
-use Rattle.memory.specs.Cuts.{length_cut, slice_index-cut}
+use Rattle.memory.proofs.Cuts.{length_cut, slice_index-cut}
 use Rattle.memory.proofs.flat.FlatMemory.read.Goals as goal
 
 pub index-requires : goal.index-requires

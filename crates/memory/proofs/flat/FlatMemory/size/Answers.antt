@@ -1,5 +1,5 @@
 use Rattle.std.proofs.Common.{vec_items, arith}
-use Rattle.memory.specs.Cuts.{length_cut}
+use Rattle.memory.proofs.Cuts.{length_cut}
 use Rattle.memory.proofs.flat.FlatMemory.size.Goals as goal
 
 pub returns-then-n-lt-LIMIT : goal.returns-then-n-lt-LIMIT

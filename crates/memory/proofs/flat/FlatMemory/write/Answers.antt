@@ -1,6 +1,6 @@
 use Rattle.std.proofs.Common.{vec_items, sym, refl, arith}
 use Rattle.std.proofs.lemmas.List.{set_past}
-use Rattle.memory.specs.Cuts.{length_cut, set-cut, past_set}
+use Rattle.memory.proofs.Cuts.{length_cut, set-cut, past_set}
 use Rattle.memory.proofs.flat.FlatMemory.write.Goals as goal
 
 pub index_mut-requires : goal.index_mut-requires

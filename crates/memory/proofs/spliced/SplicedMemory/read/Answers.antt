@@ -1,5 +1,5 @@
 use Rattle.std.proofs.Common.{◌∙◌, arith}
-use Rattle.memory.specs.Cuts.{slice_index_first, slice_index_second, slice_index_out}
+use Rattle.memory.proofs.Cuts.{slice_index_first, slice_index_second, slice_index_out}
 use Rattle.memory.proofs.spliced.SplicedMemory.read.Goals as goal
 
 pub returns-then-address-seam : goal.returns-then-address-seam

@@ -1,5 +1,5 @@
 use Rattle.std.proofs.Common.{◌++◌, arith, length-append}
-use Rattle.memory.specs.Cuts.{length_cut}
+use Rattle.memory.proofs.Cuts.{length_cut}
 use Rattle.memory.proofs.spliced.SplicedMemory.size.Goals as goal
 
 pub returns-then-n-lt-LIMIT : goal.returns-then-n-lt-LIMIT

@@ -1,6 +1,6 @@
 use Rattle.std.proofs.Common.{ℕ, ◌^◌, ◌<◌, List, ◌++◌, refl, ap, ◌∙◌, arith}
 use Rattle.memory.specs.Bytes.{cut, past}
-use Rattle.memory.specs.Cuts.{first_set, second_set, set-cut, past_set, set_out}
+use Rattle.memory.proofs.Cuts.{first_set, second_set, set-cut, past_set, set_out}
 use Rattle.memory.proofs.spliced.SplicedMemory.write.Goals as goal
 
 pub returns-then-address-seam : goal.returns-then-address-seam

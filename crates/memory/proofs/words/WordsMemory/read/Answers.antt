@@ -2,7 +2,7 @@ use Rattle.std.proofs.Common.{vec_items, refl, ap, ◌∙◌, arith}
 use Rattle.std.proofs.lemmas.List.{get_or_past, get_or_read}
 use Rattle.memory.specs.Bytes.{bytes_of_all, bytes_of}
 use Rattle.memory.specs.Makes.{words_bytes}
-use Rattle.memory.specs.Cuts.{length_cut, slice_index-cut}
+use Rattle.memory.proofs.Cuts.{length_cut, slice_index-cut}
 use Rattle.memory.proofs.Digits.{length_all, to_be, slice_index_word}
 use Rattle.memory.proofs.words.WordsMemory.read.Goals as goal
 

@@ -1,6 +1,6 @@
 use Rattle.std.proofs.Common.{vec_items, arith}
 use Rattle.memory.specs.Bytes.{bytes_of_all}
-use Rattle.memory.specs.Cuts.{length_cut}
+use Rattle.memory.proofs.Cuts.{length_cut}
 use Rattle.memory.proofs.Digits.{length_all}
 use Rattle.memory.proofs.words.WordsMemory.size.Goals as goal
 

@@ -1,7 +1,7 @@
 use Rattle.std.proofs.Common.{vec_items, sym, refl, ap, ◌∙◌, arith}
 use Rattle.std.proofs.lemmas.List.{set_past, get_or_read}
 use Rattle.memory.specs.Bytes.{cut, past, bytes_of_all, bytes_of}
-use Rattle.memory.specs.Cuts.{length_cut, set-cut, past_set}
+use Rattle.memory.proofs.Cuts.{length_cut, set-cut, past_set}
 use Rattle.memory.proofs.Digits.{length_all, to_be, from_be, set_word}
 use Rattle.memory.proofs.words.WordsMemory.write.Goals as goal
 
