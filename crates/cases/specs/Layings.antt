@@ -13,4 +13,4 @@ Accepted file = Faultless (rows_with file) 8192
 
 -- That ground is due, for row 0 and no other.
 abbrev pub RefusedBy : Ground → ℕ → Type 0
-RefusedBy g file = Refuses (rows_with file) 8192 (record { ground = g; row = 0; other = 0 })
+RefusedBy g file = Refuses (rows_with file) 8192 (record { «ground» = g; row = 0; other = 0 })
