@@ -54,9 +54,19 @@ crossed : Overlaps (rows_with 4095) 0 0
 crossed = inl (refl, (4095, ((omega arith, omega arith), (omega arith, omega arith))))
 
 pub overlapping : RefusedBy Overlap 4095
-overlapping =
-    record { ground_applies = (omega arith, (0, crossed)); first = first 4095 Overlap (before_overlap 4095 (omega arith)); other_row = crossed }
+overlapping = (
+  record { ground = Overlap; row = 0; other = 0 },
+  refl,
+  refl,
+  refl,
+  record { ground_applies = (omega arith, (0, crossed)); first = first 4095 Overlap (before_overlap 4095 (omega arith)); other_row = crossed },
+)
 
 pub outside : RefusedBy Outside 6129
-outside =
-    record { ground_applies = (omega arith, inr (omega arith)); first = first 6129 Outside (λ g l h. early 6129 g 0 l h); other_row = refl }
+outside = (
+  record { ground = Outside; row = 0; other = 0 },
+  refl,
+  refl,
+  refl,
+  record { ground_applies = (omega arith, inr (omega arith)); first = first 6129 Outside (λ g l h. early 6129 g 0 l h); other_row = refl },
+)
