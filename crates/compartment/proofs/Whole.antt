@@ -19,13 +19,13 @@ module _ (bs : List ℕ) (window file : Extent) (saved budget : ℕ) (rs : List 
     long = (runs_keep_lem budget (record { window = seen bs window; registers = rs })).same_window ∙ length_seen bs window whole
 
     -- the run has left the register file as it was
-    file-same : seen bs' file ≡ seen bs file
-    file-same = ap (λ (x : List ℕ). seen x file) ran-bytes ∙ seen_apart bs window file whole whole' _ long apart
+    file_same : seen bs' file ≡ seen bs file
+    file_same = ap (λ (x : List ℕ). seen x file) ran-bytes ∙ seen_apart bs window file whole whole' _ long apart
 
     pub bytes_are : (rs' bs'' : List ℕ) → rs' ≡ (ran budget (record { window = seen bs window; registers = rs })).last.registers → bs'' ≡ replaced bs' file (filed (seen bs' file) saved rs') → bs'' ≡ replaced (replaced bs window (compartment_ran (seen bs window) (seen bs file) saved budget).window) file (compartment_ran (seen bs window) (seen bs file) saved budget).file
     bytes_are rs' bs'' r b =
         b
-        ∙ ap (λ (x : List ℕ). replaced bs' file (filed x saved rs')) file-same
+        ∙ ap (λ (x : List ℕ). replaced bs' file (filed x saved rs')) file_same
         ∙ ap (λ (x : List ℕ). replaced bs' file (filed (seen bs file) saved x)) r
         ∙ ap (λ (x : List ℕ). replaced x file (filed (seen bs file) saved (ran budget (record { window = seen bs window; registers = rs })).last.registers)) ran-bytes
         ∙ sym (ap (λ (x : Ended). replaced (replaced bs window x.window) file x.file) ended_is)

@@ -18,11 +18,11 @@ module _ (e : Extent) (bs bs' rs rs' : List ℕ) (whole : Whole bs e) (b : bs' �
   long : length (stepped (record { window = seen bs e; registers = rs })).next.window ≡ e.max + 1
   long = (same_stepped (record { window = seen bs e; registers = rs })).window ∙ length_seen bs e whole
 
-  window-is : seen bs' e ≡ (stepped (record { window = seen bs e; registers = rs })).next.window
-  window-is = ap (λ (x : List ℕ). seen x e) b ∙ seen_replaced bs e whole _ long
+  window_is : seen bs' e ≡ (stepped (record { window = seen bs e; registers = rs })).next.window
+  window_is = ap (λ (x : List ℕ). seen x e) b ∙ seen_replaced bs e whole _ long
 
-  next-is : (stepped (record { window = seen bs e; registers = rs })).next ≡ record { window = seen bs' e; registers = rs' }
-  next-is = λ i. record { window = sym window-is i; registers = sym r i }
+  next_is : (stepped (record { window = seen bs e; registers = rs })).next ≡ record { window = seen bs' e; registers = rs' }
+  next_is = λ i. record { window = sym window_is i; registers = sym r i }
 
   -- the frame, from the start of the run on
   pub frame_more : (bs₀ : List ℕ) → Whole bs₀ e → bs ≡ replaced bs₀ e (seen bs e) → bs' ≡ replaced bs₀ e (seen bs' e)
@@ -30,7 +30,7 @@ module _ (e : Extent) (bs bs' rs rs' : List ℕ) (whole : Whole bs e) (b : bs' �
       b
       ∙ ap (λ (x : List ℕ). replaced x e (stepped (record { window = seen bs e; registers = rs })).next.window) f
       ∙ replaced_twice bs₀ e w (seen bs e) _ (length_seen bs e whole) long
-      ∙ ap (λ (x : List ℕ). replaced bs₀ e x) (sym window-is)
+      ∙ ap (λ (x : List ℕ). replaced bs₀ e x) (sym window_is)
 
   module _ (budget count : ℕ) (some : count < budget) where
     left : budget - count ≡ suc (budget - (count + 1))
@@ -40,13 +40,13 @@ module _ (e : Extent) (bs bs' rs rs' : List ℕ) (whole : Whole bs e) (b : bs' �
     run_more o q n =
         ap (λ (k : ℕ). ran_on k count (record { window = seen bs e; registers = rs })) left
         ∙ ran_goes (budget - (count + 1)) count _ (sym q ∙ n)
-        ∙ ap (λ (d : Config). ran_on (budget - (count + 1)) (count + 1) d) next-is
+        ∙ ap (λ (d : Config). ran_on (budget - (count + 1)) (count + 1) d) next_is
 
     pub run_ends : (o : Option End) (end : End) → o ≡ (stepped (record { window = seen bs e; registers = rs })).end → o ≡ Some end → ran_on (budget - count) count (record { window = seen bs e; registers = rs }) ≡ record { end = end; count = count + 1; last = record { window = seen bs' e; registers = rs' } }
     run_ends o end q n =
         ap (λ (k : ℕ). ran_on k count (record { window = seen bs e; registers = rs })) left
         ∙ ran_ends (budget - (count + 1)) count _ end (sym q ∙ n)
-        ∙ ap (λ (d : Config). record { end = end; count = count + 1; last = d }) next-is
+        ∙ ap (λ (d : Config). record { end = end; count = count + 1; last = d }) next_is
 
 pub run_spent : (budget count : ℕ) (c : Config) → budget ≤ count → ran_on (budget - count) count c ≡ record { end = Budget; count = count; last = c }
 run_spent budget count c h = let z : budget - count ≡ 0 = omega arith in ap (λ (k : ℕ). ran_on k count c) z ∙ ran_spent count c

@@ -33,9 +33,9 @@ module _ (f : ℕ → List ℕ) where
       ∙ piece (a + 1) n k (λ j b. h j (omega arith)) (omega arith)
       ∙ ap f y
 
-  all-pieces : (Q : ℕ → Type 0) (a n : ℕ) → ((k : ℕ) → AllByRecursion Q (f k)) → AllByRecursion Q (flat_map f (range_with_len a n))
-  all-pieces Q a zero h = tt
-  all-pieces Q a (suc n) h = All-append Q (f a) (flat_map f (range_with_len (a + 1) n)) (h a) (all-pieces Q (a + 1) n h)
+  all_pieces : (Q : ℕ → Type 0) (a n : ℕ) → ((k : ℕ) → AllByRecursion Q (f k)) → AllByRecursion Q (flat_map f (range_with_len a n))
+  all_pieces Q a zero h = tt
+  all_pieces Q a (suc n) h = All-append Q (f a) (flat_map f (range_with_len (a + 1) n)) (h a) (all_pieces Q (a + 1) n h)
 
 all_counting : (Q : ℕ → Type 0) (a n : ℕ) → ((k : ℕ) → Q k) → AllByRecursion Q (range_with_len a n)
 all_counting Q a zero h = tt
@@ -85,7 +85,7 @@ module _ (file : List ℕ) (saved : ℕ) (registers : List ℕ) (full : length f
 pub bytes_filed : (file : List ℕ) (saved : ℕ) (registers : List ℕ) → AllByRecursion Small file → AllByRecursion Small (filed file saved registers)
 unfolding filed
 bytes_filed file saved registers h =
-    all-pieces (written file saved registers) Small 0 258
+    all_pieces (written file saved registers) Small 0 258
     (λ k. all_cond Small (keeps saved k) _ _ (all_bytes_of 8 (get_or registers k 0)) (All-take Small 8 _ (All-drop Small (8 * k) file h)))
 
 pub qwords_started : (file : List ℕ) (saved : ℕ) → AllByRecursion Small file → AllByRecursion (λ v. v < 2 ^ 64) (started file saved)

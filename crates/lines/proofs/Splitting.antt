@@ -54,17 +54,17 @@ no_words (b ∷ bs) h =
 -- a line cut behind its blanks and behind what follows them
 module _ (line tail word rest : List ℕ) (n m : ℕ) (blanks : n ≡ prefix_len (blank_is true) line) (behind : tail ≡ drop n line)
     (solid : m ≡ prefix_len (blank_is false) tail) (after : rest ≡ drop m tail) where
-  same-words : words_of line ≡ words_of tail
-  same-words = words_behind_blanks line ∙ ap (λ (k : ℕ). words_of (drop k line)) (sym blanks) ∙ ap words_of (sym behind)
+  same_words : words_of line ≡ words_of tail
+  same_words = words_behind_blanks line ∙ ap (λ (k : ℕ). words_of (drop k line)) (sym blanks) ∙ ap words_of (sym behind)
 
   pub cut_nothing : m ≡ 0 → (words_of line ≡ []) × (words_of rest ≡ [])
   cut_nothing z =
       let none : words_of line ≡ [] = no_words line (ap (λ (k : ℕ). prefix_len (blank_is false) (drop k line)) (sym blanks) ∙ ap (prefix_len (blank_is false)) (sym behind) ∙ sym solid ∙ z) in
-      (none, ap words_of (after ∙ ap (λ (k : ℕ). drop k tail) z) ∙ sym same-words ∙ none)
+      (none, ap words_of (after ∙ ap (λ (k : ℕ). drop k tail) z) ∙ sym same_words ∙ none)
 
   pub cut_word : word ≡ take m tail → 0 < m → words_of line ≡ word ∷ words_of rest
   cut_word w p =
-      same-words
+      same_words
       ∙ words_from_word tail (omega arith)
       ∙ ap (λ (k : ℕ). take k tail ∷ words_of (drop k tail)) (sym solid)
       ∙ ap (λ (x : List ℕ). x ∷ words_of (drop m tail)) (sym w)

@@ -18,18 +18,18 @@ begins (x ∷ xs) mark is e = ap (λ (n : ℕ). n ∷ xs) (omega arith)
 
 -- a line whose first word does not begin with #
 module _ (words rest : List (List ℕ)) (word : List ℕ) (r : Bool) (mark : ℕ) (b : words ≡ word ∷ rest) (m : r ≡ pointwise eqb (mark ∷ []) (take 1 word)) (off : r ≡ false) (is : mark ≡ 35) where
-  not-silent : Silent words → ⊥
-  not-silent silent =
+  not_silent : Silent words → ⊥
+  not_silent silent =
       let first : get_or word 0 0 ≡ 35 = subst Silent b silent in
       both_ways r off ((starts_is Decides-eqb word (mark ∷ []) r m).1 (drop 1 word) (begins word mark is first))
 
   -- and is no command
-  no-command : ((k : CommandWord) → word ≡ command_text k → ⊥) → Unreadable words
-  no-command none = (not-silent, λ c a. let e = a.2 in none a.0 (cc))
+  no_command : ((k : CommandWord) → word ≡ command_text k → ⊥) → Unreadable words
+  no_command none = (not_silent, λ c a. let e = a.2 in none a.0 (cc))
 
 pub returns-in_default-of : goal.returns-in_default-of
 returns-in_default-of c =
-    no-command _ _ _ _ _ (ap words_of (sym c.new-words.ensures) ∙ c.in-Some.ensures) c.starts_with.ensures.value c.if-starts_with.false (omega arith)
+    no_command _ _ _ _ _ (ap words_of (sym c.new-words.ensures) ∙ c.in-Some.ensures) c.starts_with.ensures.value c.if-starts_with.false (omega arith)
     c.in_default-of.ensures
 
 -- the words behind the command's name do not ask for it
@@ -48,6 +48,6 @@ pub returns-in_err-read_rest : goal.returns-in_err-read_rest
 returns-in_err-read_rest c =
     let words = ap words_of (sym c.new-words.ensures) ∙ c.in-Some.ensures in
     reads_fault _ c.from_residual.result c.from_residual.ensures.0 (
-      not-silent _ _ _ _ _ words c.starts_with.ensures.value c.if-starts_with.false (omega arith),
+      not_silent _ _ _ _ _ words c.starts_with.ensures.value c.if-starts_with.false (omega arith),
       nothing_behind _ _ _ _ words c.in-Some-of.ensures c.in_err-read_rest.ensures,
     )
