@@ -2,5 +2,4 @@ pub mod Filling
 pub mod Numbers
 pub mod Rests
 pub mod Splitting
-pub mod Texts
 pub mod Unpacking

@@ -1,11 +1,20 @@
 -- The first word of a line, and the words behind it.
-use Rattle.std.proofs.Common.{◌≡◌, ℕ, ◌+◌, ◌<◌, true, false, List, [], ◌∷◌, take, drop, sym, refl, ap, ◌∙◌, ⊎_elim, one-add, arith}
-use Rattle.std.specs.List.{prefix_len}
-use Rattle.std.proofs.lemmas.Bool.{cases_Bool}
-use Rattle.lines.specs.Lines.{blank, blank_is, joins, words_of}
+use Rattle.std.proofs.Common.{◌≡◌, ℕ, suc, ◌<◌, ◌≤◌, Bool, true, false, not, List, [], ◌∷◌, length, take, drop, Some, None, Option, sym, refl, ap, ◌∙◌, ⊎_elim, one-add, arith}
+use Rattle.std.specs.List.{position, position_or_len}
+use Rattle.std.specs.Option.{unwrap_or}
+use Rattle.std.proofs.lemmas.Bool.{cases_Bool, cases_lt, cond-true, ltb-true, lt-ltb}
+use Rattle.std.proofs.lemmas.Grind.{common_steps}
+use Rattle.std.proofs.lemmas.List.Sums.{prefix_len-le-length}
+use Rattle.std.proofs.lemmas.Option.{cond_some}
+use Rattle.std.proofs.lemmas.List.{drop_all}
+use Rattle.lines.specs.Lines.{blank, joins, words_of}
+
+-- a byte that is no blank
+abbrev pub solid : ℕ → Bool
+solid b = not (blank b)
 
 -- blanks in front change no word
-pub words_behind_blanks : (bs : List ℕ) → words_of bs ≡ words_of (drop (prefix_len (blank_is true) bs) bs)
+words_behind_blanks : (bs : List ℕ) → words_of bs ≡ words_of (drop (position_or_len solid bs) bs)
 unfolding words_of
 words_behind_blanks [] = refl
 words_behind_blanks (b ∷ bs) =
@@ -21,7 +30,7 @@ joins_word : (b c : ℕ) (cs w : List ℕ) (ws vs : List (List ℕ)) → blank c
 joins_word b c cs w ws vs e f = simp (f, e)
 
 -- a line that begins with a word has that word and the words behind it
-pub words_from_word : (bs : List ℕ) → 0 < prefix_len (blank_is false) bs → words_of bs ≡ take (prefix_len (blank_is false) bs) bs ∷ words_of (drop (prefix_len (blank_is false) bs) bs)
+words_from_word : (bs : List ℕ) → 0 < position_or_len blank bs → words_of bs ≡ take (position_or_len blank bs) bs ∷ words_of (drop (position_or_len blank bs) bs)
 unfolding words_of
 words_from_word [] h = absurd (omega arith)
 words_from_word (b ∷ []) h =
@@ -36,36 +45,59 @@ words_from_word (b ∷ c ∷ cs) h =
     ⊎_elim
     (λ (f : blank c ≡ true). simp (e, f) (joins_blank b c cs (words_of cs) f))
     (λ (f : blank c ≡ false).
-    let p : 0 < prefix_len (blank_is false) (c ∷ cs) = simp f (omega arith) in
+    let p : 0 < position_or_len blank (c ∷ cs) = simp f (omega arith) in
     simp (e, one-add) (simp one-add at (joins_word b c cs _ _ _ f (words_from_word (c ∷ cs) p))))
     (cases_Bool (blank c)))
     (cases_Bool (blank b))
 
--- a line with nothing behind its blanks has no word
-pub no_words : (bs : List ℕ) → prefix_len (blank_is false) (drop (prefix_len (blank_is true) bs) bs) ≡ 0 → words_of bs ≡ []
-unfolding words_of
-no_words [] h = refl
-no_words (b ∷ bs) h =
+-- what is no blank begins a word
+word_begins : (bs : List ℕ) → position_or_len solid bs < length bs → 0 < position_or_len blank (drop (position_or_len solid bs) bs)
+word_begins [] h = absurd (omega arith)
+word_begins (b ∷ bs) h =
     ⊎_elim
-    (λ (e : blank b ≡ true). simp e (no_words bs (simp (e, one-add) at h)))
-    (λ (e : blank b ≡ false). let z : 1 + prefix_len (blank_is false) bs ≡ 0 = simp e at h in absurd (omega arith))
+    (λ (e : blank b ≡ true). simp (e, one-add) (word_begins bs (let l : suc (position_or_len solid bs) < length (b ∷ bs) = simp (e, one-add) at h in omega arith)))
+    (λ (e : blank b ≡ false). simp e (omega arith))
     (cases_Bool (blank b))
 
+-- a line with nothing behind its blanks has no word
+pub no_words : (bs : List ℕ) → position_or_len blank (drop (position_or_len solid bs) bs) ≡ 0 → words_of bs ≡ []
+unfolding words_of
+no_words bs h =
+    ⊎_elim
+    (λ (l : position_or_len solid bs < length bs). absurd (omega (arith, word_begins bs l)))
+    (λ (l : length bs ≤ position_or_len solid bs). words_behind_blanks bs ∙ ap words_of (drop_all _ bs l))
+    (cases_lt (position_or_len solid bs) (length bs))
+
 -- a line cut behind its blanks and behind what follows them
-module _ (line tail word rest : List ℕ) (n m : ℕ) (blanks : n ≡ prefix_len (blank_is true) line) (behind : tail ≡ drop n line)
-    (solid : m ≡ prefix_len (blank_is false) tail) (after : rest ≡ drop m tail) where
-  same_words : words_of line ≡ words_of tail
-  same_words = words_behind_blanks line ∙ ap (λ (k : ℕ). words_of (drop k line)) (sym blanks) ∙ ap words_of (sym behind)
-
-  pub cut_nothing : m ≡ 0 → (words_of line ≡ []) × (words_of rest ≡ [])
-  cut_nothing z =
-      let none : words_of line ≡ [] = no_words line (ap (λ (k : ℕ). prefix_len (blank_is false) (drop k line)) (sym blanks) ∙ ap (prefix_len (blank_is false)) (sym behind) ∙ sym solid ∙ z) in
-      (none, ap words_of (after ∙ ap (λ (k : ℕ). drop k tail) z) ∙ sym same_words ∙ none)
-
+module _ (line tail word rest : List ℕ) (n m : ℕ) (blanks : n ≡ position_or_len solid line) (behind : tail ≡ drop n line)
+    (word_end : m ≡ position_or_len blank tail) (after : rest ≡ drop m tail) where
   pub cut_word : word ≡ take m tail → 0 < m → words_of line ≡ word ∷ words_of rest
   cut_word w p =
-      same_words
+      words_behind_blanks line
+      ∙ ap (λ (k : ℕ). words_of (drop k line)) (sym blanks)
+      ∙ ap words_of (sym behind)
       ∙ words_from_word tail (omega arith)
-      ∙ ap (λ (k : ℕ). take k tail ∷ words_of (drop k tail)) (sym solid)
+      ∙ ap (λ (k : ℕ). take k tail ∷ words_of (drop k tail)) (sym word_end)
       ∙ ap (λ (x : List ℕ). x ∷ words_of (drop m tail)) (sym w)
       ∙ ap (λ (x : List ℕ). word ∷ words_of x) (sym after)
+
+-- the same, by what looking for the two cuts answers
+pub none_found : (line : List ℕ) → position solid line ≡ None → words_of line ≡ []
+none_found line none =
+    ⊎_elim
+    (λ (l : position_or_len solid line < length line). let e : Some (position_or_len solid line) ≡ None = sym (cond-true _ _ _ (lt-ltb _ _ l)) ∙ none in cc)
+    (λ (l : length line ≤ position_or_len solid line). no_words line (ap (position_or_len blank) (drop_all _ line l)))
+    (cases_lt (position_or_len solid line) (length line))
+
+ends_at : (text : List ℕ) → unwrap_or (position blank text) (length text) ≡ position_or_len blank text
+ends_at text =
+    let short = prefix_len-le-length (λ b. not (blank b)) text in
+    grind (arith, common_steps)
+
+pub word_found : (line text word rest : List ℕ) (n m : ℕ) (second : Option ℕ) → position solid line ≡ Some n → text ≡ drop n line → second ≡ position blank text → m ≡ unwrap_or second (length text) → word ≡ take m text → rest ≡ drop m text → words_of line ≡ word ∷ words_of rest
+word_found line text word rest n m second first t q e w r =
+    let at = cond_some _ _ _ first in
+    let end : m ≡ position_or_len blank text = e ∙ ap (λ (o : Option ℕ). unwrap_or o (length text)) q ∙ ends_at text in
+    let begins : 0 < position_or_len blank (drop (position_or_len solid line) line) = word_begins line (ltb-true _ _ at.0) in
+    let same : text ≡ drop (position_or_len solid line) line = t ∙ ap (λ (k : ℕ). drop k line) (sym at.1) in
+    cut_word line text word rest n m (sym at.1) t end r w (rw (end, same) begins)

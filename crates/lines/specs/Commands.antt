@@ -26,6 +26,10 @@ BehindMake second.Spliced ws m = (n k : ℕ) × (m ≡ make.Spliced n k) × Fill
 abbrev pub AsksMake : List (List ℕ) → MemoryMake → Type 0
 AsksMake words m = (k : MakeWord) × (ws : List (List ℕ)) × (words ≡ make_text k ∷ ws) × BehindMake k ws m
 
+-- The words behind `row`.
+abbrev pub AsksRow : List (List ℕ) → Row → Type 0
+AsksRow ws r = Filled (Off ∷ Max ∷ File ∷ Saved ∷ []) ws (r.off ∷ r.max ∷ r.file ∷ r.saved ∷ [])
+
 -- The operands of a put: the compartment, the address and the bytes in hexadecimal, which may be left out.
 abbrev pub PutOperands : List (List ℕ) → ℕ → ℕ → List ℕ → Type 0
 PutOperands words k a hex =
@@ -34,8 +38,7 @@ PutOperands words k a hex =
 -- The words behind the name of a command.
 abbrev pub Behind : CommandWord → List (List ℕ) → Command → Type 0
 Behind first.Memory ws c = (m : MemoryMake) × (c ≡ command.Memory m) × AsksMake ws m
-Behind first.Row ws c =
-    (r : Row) × (c ≡ command.Row r) × Filled (Off ∷ Max ∷ File ∷ Saved ∷ []) ws (r.off ∷ r.max ∷ r.file ∷ r.saved ∷ [])
+Behind first.Row ws c = (r : Row) × (c ≡ command.Row r) × AsksRow ws r
 Behind first.Lay ws c = (n : ℕ) × (c ≡ command.Lay n) × Filled (Size ∷ []) ws (n ∷ [])
 Behind first.Make ws c = (c ≡ command.Make) × (ws ≡ [])
 Behind first.Put ws c = (k a : ℕ) × (hex : Bor (List ℕ)) × (c ≡ command.Put k a hex) × PutOperands ws k a hex.now

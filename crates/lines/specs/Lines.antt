@@ -1,14 +1,9 @@
 -- The words of a line.
-use Rattle.std.specs.Prelude.{ℕ, Bool, true, false, cond, not, List, [], ◌∷◌, ◌==◌}
+use Rattle.std.specs.Prelude.{ℕ, Bool, true, cond, List, [], ◌∷◌, ◌==◌}
 
 -- A space or a tab separates words.
 unfoldable pub blank : ℕ → Bool
 blank b = cond (b == 32) true (b == 9)
-
--- A blank, or no blank, as asked.
-abbrev pub blank_is : Bool → ℕ → Bool
-blank_is true b = blank b
-blank_is false b = not (blank b)
 
 -- A byte before the rest of a line, whose words are given: it begins a word, or joins the one that the rest begins with.
 abbrev pub joins : ℕ → List ℕ → List (List ℕ) → List (List ℕ)

@@ -1,8 +1,7 @@
 // The fixed words of the format.
-ghost use Rattle.std.specs.Prelude.{◌≡◌, MatchOption, ◌≢◌};
-ghost use Rattle.lines.specs.Keywords.{command_text, make_text};
-ghost use Rattle.lines.specs.declared.keyword.CommandWord.{CommandWord as Known};
-ghost use Rattle.lines.specs.declared.keyword.MakeWord.{MakeWord as KnownMake};
+ghost use Rattle.lines.specs.Keywords.{NamesCommand, NamesMake};
+
+use super::fault::Fault;
 
 // The first word of a line.
 #[derive(Clone, Copy, PartialEq, Eq, Debug)]
@@ -18,21 +17,23 @@ pub(crate) enum CommandWord {
     Release,
 }
 
-impl CommandWord {
-    pub(crate) fn of(word: &[u8]) -> Option<CommandWord>
-        ensures { MatchOption result ((k : Known) → word.now ≢ command_text k) (λ k. word.now ≡ command_text k) }
-    {
+impl<'a> TryFrom<&'a [u8]> for CommandWord {
+    type Error = Fault<'a>;
+
+    ghost try_from_gives = { NamesCommand };
+
+    fn try_from(word: &'a [u8]) -> Result<CommandWord, Fault<'a>> {
         match word {
-            b"memory" => Some(CommandWord::Memory),
-            b"row" => Some(CommandWord::Row),
-            b"lay" => Some(CommandWord::Lay),
-            b"make" => Some(CommandWord::Make),
-            b"put" => Some(CommandWord::Put),
-            b"set" => Some(CommandWord::Set),
-            b"fetch" => Some(CommandWord::Fetch),
-            b"get" => Some(CommandWord::Get),
-            b"release" => Some(CommandWord::Release),
-            _ => None,
+            b"memory" => Ok(CommandWord::Memory),
+            b"row" => Ok(CommandWord::Row),
+            b"lay" => Ok(CommandWord::Lay),
+            b"make" => Ok(CommandWord::Make),
+            b"put" => Ok(CommandWord::Put),
+            b"set" => Ok(CommandWord::Set),
+            b"fetch" => Ok(CommandWord::Fetch),
+            b"get" => Ok(CommandWord::Get),
+            b"release" => Ok(CommandWord::Release),
+            _ => Err(Fault::NoSuchCommand(word)),
         }
     }
 }
@@ -45,15 +46,17 @@ pub(crate) enum MakeWord {
     Spliced,
 }
 
-impl MakeWord {
-    pub(crate) fn of(word: &[u8]) -> Option<MakeWord>
-        ensures { MatchOption result ((k : KnownMake) → word.now ≢ make_text k) (λ k. word.now ≡ make_text k) }
-    {
+impl<'a> TryFrom<&'a [u8]> for MakeWord {
+    type Error = Fault<'a>;
+
+    ghost try_from_gives = { NamesMake };
+
+    fn try_from(word: &'a [u8]) -> Result<MakeWord, Fault<'a>> {
         match word {
-            b"flat" => Some(MakeWord::Flat),
-            b"words" => Some(MakeWord::Words),
-            b"spliced" => Some(MakeWord::Spliced),
-            _ => None,
+            b"flat" => Ok(MakeWord::Flat),
+            b"words" => Ok(MakeWord::Words),
+            b"spliced" => Ok(MakeWord::Spliced),
+            _ => Err(Fault::NoSuchMake(word)),
         }
     }
 }

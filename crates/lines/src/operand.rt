@@ -19,7 +19,7 @@ pub enum Operand {
 }
 
 impl Operand {
-    // Its name in the format.
+    // Its name in the format. A text and no `Display`, since a message is bytes and takes it whole.
     pub(crate) fn name(self) -> &'static str
         ensures { result.now ≡ name_of self }
     {

@@ -1,7 +1,6 @@
 // Reading the operands that stand behind the fixed words of a line.
 ghost use Rattle.std.specs.Prelude.{◌≡◌, ℕ, List, [], ◌∷◌, Decides, MatchResult, ◌≢◌};
 ghost use Rattle.lines.specs.Hexadecimal.{Hex};
-ghost use Rattle.lines.specs.Lines.{words_of};
 ghost use Rattle.lines.specs.Operands.{Filled, Gives};
 
 use super::digits::{NoNumber, digit_of, numeral};
@@ -11,29 +10,24 @@ use super::scanner::Scanner;
 
 // The next word as the value of an operand.
 pub(crate) fn number<'a>(words: &mut Scanner<'a>, operand: Operand) -> Result<u64, Fault<'a>>
-    ensures { MatchResult result (λ n. (w : List ℕ) × (words_of words.old.rest.now ≡ w ∷ words_of words.new.rest.now) × Gives operand w n) (λ _. (w : List ℕ) (ws : List (List ℕ)) (n : ℕ) → words_of words.old.rest.now ≡ w ∷ ws → Gives operand w n → ⊥) }
+    ensures { MatchResult result (λ n. (w : List ℕ) × (words.old ≡ w ∷ words.new) × Gives operand w n) (λ _. (w : List ℕ) (ws : List (List ℕ)) (n : ℕ) → words.old ≡ w ∷ ws → Gives operand w n → ⊥) }
 {
-    let Some(word) = words.next_word() else {
-        return Err(Fault::Missing(operand));
-    };
-    match numeral(word) {
-        Ok(n) => {
-            if n <= operand.most() {
-                Ok(n)
-            } else {
-                Err(Fault::TooLarge(operand, word))
-            }
-        }
-        Err(NoNumber::TooLarge) => Err(Fault::TooLarge(operand, word)),
-        Err(NoNumber::NotANumber) => Err(Fault::NotANumber(operand, word)),
+    let word = words.next().ok_or(Fault::Missing(operand))?;
+    let n = numeral(word).map_err(|e| match e {
+        NoNumber::NotANumber => Fault::NotANumber(operand, word),
+        NoNumber::TooLarge => Fault::TooLarge(operand, word),
+    })?;
+    if n > operand.most() {
+        return Err(Fault::TooLarge(operand, word));
     }
+    Ok(n)
 }
 
-// The line ends here.
+// The line ends here. (A match: no method of an option makes an error of what is there.)
 pub(crate) fn end<'a>(words: &mut Scanner<'a>) -> Result<(), Fault<'a>>
-    ensures { MatchResult result (λ _. words_of words.old.rest.now ≡ []) (λ _. words_of words.old.rest.now ≢ []) }
+    ensures { MatchResult result (λ _. words.old ≡ []) (λ _. words.old ≢ []) }
 {
-    match words.next_word() {
+    match words.next() {
         Some(word) => Err(Fault::WordTooMany(word)),
         None => Ok(()),
     }
@@ -44,8 +38,9 @@ pub(crate) fn numbers<'a, const N: usize>(
     words: &mut Scanner<'a>,
     operands: [Operand; N],
 ) -> Result<[u64; N], Fault<'a>>
-    ensures { MatchResult result (λ ns. Filled operands.entry (words_of words.old.rest.now) ns) (λ _. (ns : List ℕ) → Filled operands.entry (words_of words.old.rest.now) ns → ⊥) }
+    ensures { MatchResult result (λ ns. Filled operands.entry words.old ns) (λ _. (ns : List ℕ) → Filled operands.entry words.old ns → ⊥) }
 {
+    // By index: `try_map` of an array says nothing of the order of its calls, and a `zip` with `iter_mut` nothing of the values.
     let mut values = [0; N];
     for (i, operand) in operands.iter().enumerate() {
         values[i] = number(words, *operand)?;
@@ -58,10 +53,5 @@ pub(crate) fn numbers<'a, const N: usize>(
 pub(crate) fn is_hex(word: &[u8]) -> bool
     ensures { Decides result (Hex word.now) }
 {
-    for b in word {
-        if digit_of(*b) >= 16 {
-            return false;
-        }
-    }
-    word.len() % 2 == 0
+    word.len() % 2 == 0 && word.iter().all(|b| digit_of(*b).is_some())
 }

@@ -1,46 +1,60 @@
 // The words of a line, one after the other.
-ghost use Rattle.std.specs.Prelude.{◌≡◌, ◌≤◌, [], ◌∷◌, length, MatchOption};
-ghost use Rattle.lines.specs.Lines.{blank, blank_is, words_of};
-ghost use Rattle.std.specs.List.{prefix_len};
+ghost use Rattle.std.specs.Prelude.{◌≡◌, [], ◌∷◌, MatchOption};
+ghost use Rattle.lines.specs.Lines.{blank, words_of};
+ghost use Rattle.std.specs.Iterator.{YieldsFirstRef, item_count};
 
-// What is left of a line.
+use std::marker::Model;
+
+// What is left of a line, seen as its words.
 #[derive(Drop)]
 pub(crate) struct Scanner<'a> {
     rest: &'a [u8],
 }
 
+impl<'a> Model for Scanner<'a> {
+    ghost use Rattle.std.specs.Prelude.{ℕ, List};
+    ghost use Rattle.lines.specs.Lines.{words_of};
+
+    ghost Value = { List (List ℕ) };
+
+    ghost view = { λ s. words_of s.rest.now };
+}
+
+#[tactic(auto, unfolding(crate::specs::Lines::blank))]
 fn is_blank(b: u8) -> bool
     ensures { result ≡ blank b }
 {
     b == b' ' || b == b'\t'
 }
 
-// How many of the bytes that the text begins with are blanks, or how many are not.
-fn run_of(text: &[u8], blanks: bool) -> usize
-    ensures run { result ≡ prefix_len (blank_is blanks) text.now }
-    ensures within { result ≤ length text.now }
+// The first word of a line and what stands behind it, or none where nothing but blanks is left.
+fn split_word(line: &[u8]) -> Option<(&[u8], &[u8])>
+    ensures { MatchOption result (words_of line.now ≡ []) (λ parts. words_of line.now ≡ parts.0.now ∷ words_of parts.1.now) }
 {
-    for (i, b) in text.iter().enumerate() {
-        if is_blank(*b) != blanks {
-            return i;
-        }
-    }
-    text.len()
+    let start = line.iter().position(|b| !is_blank(*b))?;
+    let (_, text) = line.split_at(start);
+    let end = text.iter().position(|b| is_blank(*b)).unwrap_or(text.len());
+    Some(text.split_at(end))
 }
 
 impl<'a> Scanner<'a> {
     pub(crate) fn new(line: &'a [u8]) -> Scanner<'a>
-        ensures { result.rest.now ≡ line.now }
+        ensures { result ≡ words_of line.now }
     {
         Scanner { rest: line }
     }
+}
 
-    pub(crate) fn next_word(&mut self) -> Option<&'a [u8]>
-        ensures { MatchOption result ((words_of self.old.rest.now ≡ []) × (words_of self.new.rest.now ≡ [])) (λ w. words_of self.old.rest.now ≡ w.now ∷ words_of self.new.rest.now) }
-    {
-        let (_, tail) = self.rest.split_at(run_of(self.rest, true));
-        let (word, rest) = tail.split_at(run_of(tail, false));
+impl<'a> Iterator for Scanner<'a> {
+    type Item = &'a [u8];
+
+    ghost next_gives = { YieldsFirstRef (λ s. s) };
+
+    ghost remaining = { item_count (λ s. s) };
+
+    fn next(&mut self) -> Option<&'a [u8]> {
+        let (word, rest) = split_word(self.rest)?;
         self.rest = rest;
-        if word.is_empty() { None } else { Some(word) }
+        Some(word)
     }
 }

@@ -26,8 +26,4 @@ words_zeros n = ap cut (all_zeros n) ∙ cut_zeros (8 * n)
 pub spliced_zeros : (n m : ℕ) → cut (cut (replicate n 0) ++ cut (bytes_of_all (replicate m 0))) ≡ replicate (min (2 ^ 32) (n + 8 * m)) 0
 spliced_zeros n m =
     let e : min (2 ^ 32) (min (2 ^ 32) n + min (2 ^ 32) (8 * m)) ≡ min (2 ^ 32) (n + 8 * m) = omega arith in
-    ap (λ (bs : List ℕ). cut (bs ++ cut (bytes_of_all (replicate m 0)))) (cut_zeros n)
-    ∙ ap (λ (bs : List ℕ). cut (replicate (min (2 ^ 32) n) 0 ++ bs)) (words_zeros m)
-    ∙ ap cut (replicate-append-replicate (min (2 ^ 32) n) (min (2 ^ 32) (8 * m)) 0)
-    ∙ cut_zeros (min (2 ^ 32) n + min (2 ^ 32) (8 * m))
-    ∙ ap (λ (k : ℕ). replicate k 0) e
+    rw (cut_zeros n, words_zeros m, replicate-append-replicate {A = ℕ} (min (2 ^ 32) n) (min (2 ^ 32) (8 * m)) 0, cut_zeros (min (2 ^ 32) n + min (2 ^ 32) (8 * m)), e)

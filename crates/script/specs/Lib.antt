@@ -2,3 +2,4 @@ pub mod Stores
 pub mod Answers
 pub mod Sessions
 pub mod Playing
+pub mod Lending

@@ -1,11 +1,11 @@
 // The answer to a line, and how it is written.
-ghost use Rattle.std.specs.Prelude.{◌≡◌, ◌<◌, IfOk};
-ghost use Rattle.script.specs.Answers.{answer_text, hex_digit_lem, hex_text, output_text};
-ghost use Rattle.script.specs.declared.answer.Answer.TheVariants.{LayRefused};
+ghost use Rattle.std.specs.Prelude.{◌≡◌, IfOk, Some};
+ghost use Rattle.script.specs.Answers.{answer_text, hex_text, output_text};
 
 use machine::Refusal;
 use plan::LayRefusal;
 use std::alloc::{AllocError, Global};
+use std::fmt;
 
 #[derive(Drop)]
 pub enum Answer {
@@ -20,74 +20,54 @@ pub enum Answer {
     Released,
 }
 
-// A digit below 16, in lower case.
-fn hex_digit(d: u8) -> u8
-    requires { d < 16 }
-    ensures { result ≡ hex_digit_lem d }
-{
-    if d < 10 { b'0' + d } else { b'a' - 10 + d }
-}
+// Bytes that print as pairs of hexadecimal digits.
+#[derive(Clone, Copy)]
+struct Hex<'a>(&'a [u8]);
 
-// Bytes as pairs of hexadecimal digits.
-fn hex_of(heap: Global, bytes: &[u8]) -> Result<Vec<u8>, AllocError>
-    ensures { IfOk result (λ v. v.items ≡ hex_text bytes.now) }
-{
-    let mut text = Vec::new(heap);
-    for b in bytes {
-        text.push(hex_digit(*b / 16))?;
-        text.push(hex_digit(*b % 16))?;
+impl fmt::Display for Hex<'_> {
+    ghost output = { λ h. Some (hex_text h.0.now) };
+
+    fn fmt<W: fmt::Write>(&self, f: &mut fmt::Formatter<W>) -> fmt::Result {
+        for &b in self.0 {
+            write!(f, "{b:02x}")?;
+        }
+        Ok(())
     }
-    Ok(text)
 }
 
-// A text of its own, as bytes.
-fn bytes_of(heap: Global, text: &str) -> Result<Vec<u8>, AllocError>
-    ensures { IfOk result (λ v. v.items ≡ text.now) }
-{
-    Vec::from_slice(heap, text.as_bytes())
-}
+impl fmt::Display for Answer {
+    ghost output = { λ a. Some (answer_text a) };
 
-fn lay_refusal_text(heap: Global, e: LayRefusal) -> Result<Vec<u8>, AllocError>
-    ensures { IfOk result (λ v. v.items ≡ answer_text (LayRefused e)) }
-{
-    let number = e.ground.number();
-    let row = e.row;
-    let other = e.other;
-    bytes_of(
-        heap,
-        format!(in heap; "refused {number} row {row} other {other}")?.as_str(),
-    )
+    fn fmt<W: fmt::Write>(&self, f: &mut fmt::Formatter<W>) -> fmt::Result {
+        match self {
+            Answer::Size(n) => write!(f, "{n} bytes"),
+            Answer::Row(i) => write!(f, "row {i}"),
+            Answer::Accepted => write!(f, "accepted"),
+            Answer::LayRefused(e) => {
+                write!(
+                    f,
+                    "refused {} row {} other {}",
+                    e.ground.number(),
+                    e.row,
+                    e.other
+                )
+            }
+            Answer::Made => write!(f, "made"),
+            Answer::Refused(e) => write!(f, "refused {}", e.number()),
+            Answer::Fetched(bytes) => write!(f, "{}", Hex(bytes.as_slice())),
+            Answer::Word(w) => write!(f, "{w}"),
+            Answer::Released => write!(f, "released"),
+        }
+    }
 }
 
 impl Answer {
-    fn text(&self, heap: Global) -> Result<Vec<u8>, AllocError>
-        ensures { IfOk result (λ v. v.items ≡ answer_text self.now) }
-    {
-        match self {
-            Answer::Size(n) => bytes_of(heap, format!(in heap; "{n} bytes")?.as_str()),
-            Answer::Row(i) => bytes_of(heap, format!(in heap; "row {i}")?.as_str()),
-            Answer::Accepted => bytes_of(heap, "accepted"),
-            Answer::LayRefused(e) => lay_refusal_text(heap, *e),
-            Answer::Made => bytes_of(heap, "made"),
-            Answer::Refused(e) => {
-                let number = e.number();
-                bytes_of(heap, format!(in heap; "refused {number}")?.as_str())
-            }
-            Answer::Fetched(bytes) => hex_of(heap, bytes.as_slice()),
-            Answer::Word(w) => bytes_of(heap, format!(in heap; "{w}")?.as_str()),
-            Answer::Released => bytes_of(heap, "released"),
-        }
-    }
-
     // The line of output for the line that this answers.
     pub fn written(&self, heap: Global, line: &[u8]) -> Result<Vec<u8>, AllocError>
         ensures { IfOk result (λ v. v.items ≡ output_text line.now self.now) }
     {
-        let text = self.text(heap)?;
         let mut out = Vec::from_slice(heap, line)?;
-        out.extend_from_slice(b": ")?;
-        out.extend_from_slice(text.as_slice())?;
-        out.push(b'\n')?;
+        out.extend_from_slice(format!(in heap; ": {self}\n")?.as_bytes())?;
         Ok(out)
     }
 }

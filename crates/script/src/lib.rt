@@ -8,5 +8,5 @@ mod session;
 mod store;
 
 pub use answer::Answer;
-pub use play::{Stop, perform_line, play_script};
+pub use play::{Stop, perform_line, play_script, play_stdin};
 pub use session::{Session, Trouble};

@@ -6,11 +6,12 @@ ghost use Rattle.machine.specs.Machines.{opening};
 ghost use Rattle.machine.specs.Outcomes.{Outcome};
 ghost use Rattle.script.specs.Stores.{store_bytes, machine_state};
 
-use super::store::Store;
+use super::store::{Store, for_make, map_make};
 use machine::{Machine, Refusal};
 use memory::{Flat, Spliced, Words};
 use plan::Plan;
 
+// A machine of each make, and not one over `Store`: so the make is chosen once a call and not once a byte.
 #[derive(Drop)]
 pub enum AnyMachine {
     Flat(Machine<Flat>),
@@ -22,71 +23,43 @@ impl AnyMachine {
     pub(crate) fn make(store: Store, plan: Plan) -> AnyMachine
         ensures { machine_state result ≡ opening (store_bytes store) plan }
     {
-        match store {
-            Store::Flat(memory) => AnyMachine::Flat(Machine::make(memory, plan)),
-            Store::Words(memory) => AnyMachine::Words(Machine::make(memory, plan)),
-            Store::Spliced(memory) => AnyMachine::Spliced(Machine::make(memory, plan)),
-        }
+        map_make!(Store, store, memory => AnyMachine, Machine::make(memory, plan))
     }
 
     pub(crate) fn release(self) -> Store
         ensures { store_bytes result ≡ (machine_state self).held }
     {
-        match self {
-            AnyMachine::Flat(machine) => Store::Flat(machine.release()),
-            AnyMachine::Words(machine) => Store::Words(machine.release()),
-            AnyMachine::Spliced(machine) => Store::Spliced(machine.release()),
-        }
+        map_make!(AnyMachine, self, machine => Store, machine.release())
     }
 
     pub(crate) fn put(&mut self, k: u16, address: u64, bytes: &[u8]) -> Result<(), Refusal>
         ensures { Outcome (Put k address bytes.now) (machine_state self.old) (done_answer result) (machine_state self.new) }
     {
-        match self {
-            AnyMachine::Flat(machine) => machine.put(k, address, bytes),
-            AnyMachine::Words(machine) => machine.put(k, address, bytes),
-            AnyMachine::Spliced(machine) => machine.put(k, address, bytes),
-        }
+        for_make!(AnyMachine, self, machine => machine.put(k, address, bytes))
     }
 
     pub(crate) fn fetch(&self, k: u16, address: u64, buffer: &mut [u8]) -> Result<(), Refusal>
         ensures outcome { Outcome (Fetch k address (length buffer.old)) (machine_state self.now) (filled_answer buffer.new result) (machine_state self.now) }
         ensures unfilled { is_err result ≡ true → buffer.new ≡ buffer.old }
     {
-        match self {
-            AnyMachine::Flat(machine) => machine.fetch(k, address, buffer),
-            AnyMachine::Words(machine) => machine.fetch(k, address, buffer),
-            AnyMachine::Spliced(machine) => machine.fetch(k, address, buffer),
-        }
+        for_make!(AnyMachine, self, machine => machine.fetch(k, address, buffer))
     }
 
     pub(crate) fn spans(&self, k: u16, address: u64, size: u64) -> Result<(), Refusal>
         ensures { (bs : List ℕ) × Outcome (Fetch k address size) (machine_state self.now) (filled_answer bs result) (machine_state self.now) }
     {
-        match self {
-            AnyMachine::Flat(machine) => machine.spans(k, address, size),
-            AnyMachine::Words(machine) => machine.spans(k, address, size),
-            AnyMachine::Spliced(machine) => machine.spans(k, address, size),
-        }
+        for_make!(AnyMachine, self, machine => machine.spans(k, address, size))
     }
 
     pub(crate) fn set(&mut self, k: u16, index: u64, word: u64) -> Result<(), Refusal>
         ensures { Outcome (Set k index word) (machine_state self.old) (done_answer result) (machine_state self.new) }
     {
-        match self {
-            AnyMachine::Flat(machine) => machine.set(k, index, word),
-            AnyMachine::Words(machine) => machine.set(k, index, word),
-            AnyMachine::Spliced(machine) => machine.set(k, index, word),
-        }
+        for_make!(AnyMachine, self, machine => machine.set(k, index, word))
     }
 
     pub(crate) fn get(&self, k: u16, index: u64) -> Result<u64, Refusal>
         ensures { Outcome (Get k index) (machine_state self.now) (word_answer result) (machine_state self.now) }
     {
-        match self {
-            AnyMachine::Flat(machine) => machine.get(k, index),
-            AnyMachine::Words(machine) => machine.get(k, index),
-            AnyMachine::Spliced(machine) => machine.get(k, index),
-        }
+        for_make!(AnyMachine, self, machine => machine.get(k, index))
     }
 }

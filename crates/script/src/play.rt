@@ -1,6 +1,8 @@
 // Playing a whole script: each line is read, performed and written with its answer.
+ghost use Rattle.std.specs.Prelude.{◌≡◌, ◌⊎◌};
 ghost use Rattle.lines.specs.Lines.{words_of};
 ghost use Rattle.script.specs.Playing.{Plays};
+ghost use Rattle.script.specs.declared.play.Stop.TheVariants.{Unread, Unperformed};
 
 use super::answer::Answer;
 use super::session::{Session, Trouble};
@@ -8,12 +10,29 @@ use lines::{Fault, read_command};
 use std::alloc::Global;
 use std::io;
 use std::io::{BufRead, BufReader, BufWriter, Write};
+use std::process::ExitCode;
 
 // Why a script ends before its last line.
 #[derive(Clone, Copy)]
 pub enum Stop<'a> {
     Unread(Fault<'a>),
     Unperformed(Trouble),
+}
+
+impl<'a> From<Fault<'a>> for Stop<'a> {
+    ghost from_gives = { λ fault stop. stop ≡ Unread fault };
+
+    fn from(e: Fault<'a>) -> Stop<'a> {
+        Stop::Unread(e)
+    }
+}
+
+impl<'a> From<Trouble> for Stop<'a> {
+    ghost from_gives = { λ trouble stop. stop ≡ Unperformed trouble };
+
+    fn from(e: Trouble) -> Stop<'a> {
+        Stop::Unperformed(e)
+    }
 }
 
 // Performs the command that the line asks for.
@@ -24,15 +43,10 @@ pub fn perform_line<'a>(
 ) -> Result<Option<Answer>, Stop<'a>>
     ensures { Plays (words_of line.now) session.old result session.new }
 {
-    let command = match read_command(line) {
-        Ok(Some(command)) => command,
-        Ok(None) => return Ok(None),
-        Err(fault) => return Err(Stop::Unread(fault)),
+    let Some(command) = read_command(line)? else {
+        return Ok(None);
     };
-    match session.perform(heap, command) {
-        Ok(answer) => Ok(Some(answer)),
-        Err(trouble) => Err(Stop::Unperformed(trouble)),
-    }
+    Ok(Some(session.perform(heap, command)?))
 }
 
 // A line as it was read, without the line feed, or carriage return and line feed, that ends it.
@@ -49,7 +63,7 @@ fn report(rt: &HostRuntime, number: u64, stop: Stop<'_>) -> io::Result<()> {
     write!(out, "replay: line {number}: ")?;
     match stop {
         Stop::Unread(fault) => out.write_all(fault.message(rt.alloc())?.as_slice())?,
-        Stop::Unperformed(trouble) => out.write_all(trouble.text().as_bytes())?,
+        Stop::Unperformed(trouble) => write!(out, "{trouble}")?,
     }
     writeln!(out)?;
     Err(io::Error::other("the script stops"))
@@ -63,6 +77,7 @@ pub fn play_script(rt: &HostRuntime) -> io::Result<()> {
     let mut output = BufWriter::new(heap, rt.stdout())?;
     let mut session = Session::new(heap);
     let mut line = Vec::new(heap);
+    // By `read_until`, which keeps how a line ends: a carriage return belongs to the ending only before a line feed.
     for number in 1..u64::MAX {
         line.clear();
         if input.read_until(b'\n', &mut line)? == 0 {
@@ -79,4 +94,12 @@ pub fn play_script(rt: &HostRuntime) -> io::Result<()> {
         }
     }
     output.flush()
+}
+
+// Plays the script on standard input, for a program that ends with its status: an error is a status there and no text,
+// since what stops a line is written by then.
+pub fn play_stdin(rt: &HostRuntime) -> ExitCode
+    ensures { (result ≡ ExitCode.SUCCESS) ⊎ (result ≡ ExitCode.FAILURE) }
+{
+    play_script(rt).map_or(ExitCode::FAILURE, |()| ExitCode::SUCCESS)
 }

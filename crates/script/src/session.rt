@@ -1,22 +1,20 @@
 // What the lines of a script have built so far, and what one more does to it.
-ghost use Rattle.std.specs.Prelude.{◌≡◌};
+ghost use Rattle.std.specs.Prelude.{◌≡◌, None, Some, MatchResult};
+ghost use Rattle.std.specs.Borrow.{sem};
 ghost use Rattle.lines.specs.declared.command.Command.TheVariants as asked;
-ghost use Rattle.script.specs.Sessions.{Performed, Starts, trouble_text};
+ghost use Rattle.script.specs.Sessions.{Performed, Starts, trouble_text, needs_machine, needs_no_machine};
+ghost use Rattle.script.specs.Lending.{LendsMachine};
+ghost use Rattle.script.specs.declared.session.Stage.TheVariants as stage;
+ghost use Rattle.script.specs.declared.session.Trouble.TheVariants.{NoRoom};
 
 use super::answer::Answer;
 use super::machines::AnyMachine;
 use super::store::Store;
 use lines::{Command, MemoryMake, decode_hex};
 use plan::{Plan, Row, lay};
-use std::alloc::Global;
-
-// What stands: nothing yet, a memory, or a machine that has it.
-#[derive(Drop)]
-pub enum Stage {
-    Nothing,
-    Memory(Store),
-    Made(AnyMachine),
-}
+use std::alloc::{AllocError, AllocFailed, Global};
+use std::error::Error;
+use std::{fmt, mem};
 
 // Why a command is not performed.
 #[derive(Clone, Copy, PartialEq, Eq, Debug)]
@@ -27,16 +25,72 @@ pub enum Trouble {
     MachineStands,
 }
 
-impl Trouble {
-    // What stands in the way, in words.
-    pub(crate) fn text(self) -> &'static str
-        ensures { result.now ≡ trouble_text self }
+impl fmt::Display for Trouble {
+    ghost output = { λ t. Some (trouble_text t) };
+
+    fn fmt<W: fmt::Write>(&self, f: &mut fmt::Formatter<W>) -> fmt::Result {
+        f.write_str(match self {
+            Self::NoRoom => "no room for what it asks for",
+            Self::NoMemory => "there is no memory",
+            Self::NoMachine => "there is no machine",
+            Self::MachineStands => "there is a machine",
+        })
+    }
+}
+
+impl Error for Trouble {}
+
+impl From<AllocError> for Trouble {
+    ghost from_gives = { λ _ t. t ≡ NoRoom };
+
+    fn from(_e: AllocError) -> Trouble {
+        Trouble::NoRoom
+    }
+}
+
+impl<T: Drop> From<AllocFailed<T>> for Trouble {
+    ghost from_gives = { λ _ t. t ≡ NoRoom };
+
+    fn from(e: AllocFailed<T>) -> Trouble {
+        Trouble::from(AllocError::from(e))
+    }
+}
+
+// What stands: nothing yet, a memory, or a machine that has it.
+#[derive(Drop)]
+pub enum Stage {
+    Nothing,
+    Memory(Store),
+    Made(AnyMachine),
+}
+
+impl Stage {
+    // No machine stands in the way.
+    fn vacant(&self) -> Result<(), Trouble>
+        ensures { MatchResult result (λ _. needs_no_machine self.now ≡ None) (λ e. needs_no_machine self.now ≡ Some e) }
     {
         match self {
-            Trouble::NoRoom => "no room for what it asks for",
-            Trouble::NoMemory => "there is no memory",
-            Trouble::NoMachine => "there is no machine",
-            Trouble::MachineStands => "there is a machine",
+            Stage::Made(_) => Err(Trouble::MachineStands),
+            _ => Ok(()),
+        }
+    }
+
+    fn machine(&self) -> Result<&AnyMachine, Trouble>
+        ensures { MatchResult result (λ m. self.now ≡ stage.Made m.now) (λ e. needs_machine self.now ≡ Some e) }
+    {
+        match self {
+            Stage::Made(machine) => Ok(machine),
+            _ => Err(Trouble::NoMachine),
+        }
+    }
+
+    fn machine_mut(&mut self) -> Result<&mut AnyMachine, Trouble>
+        ensures* writes_back { sem 𝓛 (LendsMachine self.entry result) }
+        ensures value { MatchResult result (λ m. self.old ≡ stage.Made m.now) (λ e. needs_machine self.old ≡ Some e) }
+    {
+        match self {
+            Stage::Made(machine) => Ok(machine),
+            _ => Err(Trouble::NoMachine),
         }
     }
 }
@@ -63,47 +117,34 @@ impl Session {
     fn make_memory(&mut self, heap: Global, make: MemoryMake) -> Result<Answer, Trouble>
         ensures { Performed (asked.Memory make) self.old result self.new }
     {
-        if let Stage::Made(_) = &self.stage {
-            return Err(Trouble::MachineStands);
-        }
-        match Store::new(heap, make) {
-            Ok(store) => {
-                let size = store.size();
-                self.stage = Stage::Memory(store);
-                Ok(Answer::Size(size))
-            }
-            Err(_) => Err(Trouble::NoRoom),
-        }
+        self.stage.vacant()?;
+        let store = Store::new(heap, make)?;
+        let size = store.size();
+        self.stage = Stage::Memory(store);
+        Ok(Answer::Size(size))
     }
 
     fn give_row(&mut self, row: Row) -> Result<Answer, Trouble>
         ensures { Performed (asked.Row row) self.old result self.new }
     {
         let i = self.rows.len();
-        match self.rows.push(row) {
-            Ok(()) => Ok(Answer::Row(i)),
-            Err(_) => Err(Trouble::NoRoom),
-        }
+        self.rows.push(row)?;
+        Ok(Answer::Row(i))
     }
 
     fn lay_rows(&mut self, size: u64) -> Result<Answer, Trouble>
         ensures { Performed (asked.Lay size) self.old result self.new }
     {
-        if let Stage::Made(_) = &self.stage {
-            return Err(Trouble::MachineStands);
-        }
+        self.stage.vacant()?;
         let laid = lay(self.rows.as_slice(), size, &mut self.plan);
         self.rows.clear();
-        match laid {
-            Ok(()) => Ok(Answer::Accepted),
-            Err(e) => Ok(Answer::LayRefused(e)),
-        }
+        Ok(laid.map_or_else(Answer::LayRefused, |()| Answer::Accepted))
     }
 
     fn make_machine(&mut self) -> Result<Answer, Trouble>
         ensures { Performed asked.Make self.old result self.new }
     {
-        match std::mem::replace(&mut self.stage, Stage::Nothing) {
+        match mem::replace(&mut self.stage, Stage::Nothing) {
             Stage::Nothing => Err(Trouble::NoMemory),
             Stage::Memory(store) => {
                 self.stage = Stage::Made(AnyMachine::make(store, self.plan));
@@ -119,15 +160,14 @@ impl Session {
     fn release_memory(&mut self) -> Result<Answer, Trouble>
         ensures { Performed asked.Release self.old result self.new }
     {
-        match std::mem::replace(&mut self.stage, Stage::Nothing) {
-            Stage::Nothing => Err(Trouble::NoMachine),
-            Stage::Memory(store) => {
-                self.stage = Stage::Memory(store);
-                Err(Trouble::NoMachine)
-            }
+        match mem::replace(&mut self.stage, Stage::Nothing) {
             Stage::Made(machine) => {
                 self.stage = Stage::Memory(machine.release());
                 Ok(Answer::Released)
+            }
+            stage => {
+                self.stage = stage;
+                Err(Trouble::NoMachine)
             }
         }
     }
@@ -135,59 +175,37 @@ impl Session {
     fn put(&mut self, heap: Global, k: u16, address: u64, hex: &[u8]) -> Result<Answer, Trouble>
         ensures { Performed (asked.Put k address hex.entry) self.old result self.new }
     {
-        let Stage::Made(machine) = &mut self.stage else {
-            return Err(Trouble::NoMachine);
-        };
-        let Ok(bytes) = decode_hex(heap, hex) else {
-            return Err(Trouble::NoRoom);
-        };
-        match machine.put(k, address, bytes.as_slice()) {
-            Ok(()) => Ok(Answer::Accepted),
-            Err(e) => Ok(Answer::Refused(e)),
-        }
+        let machine = self.stage.machine_mut()?;
+        let bytes = decode_hex(heap, hex)?;
+        let done = machine.put(k, address, bytes.as_slice());
+        Ok(done.map_or_else(Answer::Refused, |()| Answer::Accepted))
     }
 
     fn set(&mut self, k: u16, index: u64, word: u64) -> Result<Answer, Trouble>
         ensures { Performed (asked.Set k index word) self.old result self.new }
     {
-        let Stage::Made(machine) = &mut self.stage else {
-            return Err(Trouble::NoMachine);
-        };
-        match machine.set(k, index, word) {
-            Ok(()) => Ok(Answer::Accepted),
-            Err(e) => Ok(Answer::Refused(e)),
-        }
+        let done = self.stage.machine_mut()?.set(k, index, word);
+        Ok(done.map_or_else(Answer::Refused, |()| Answer::Accepted))
     }
 
     // Asked first whether it would be refused, so that no buffer is made for one that would.
     fn fetch(&self, heap: Global, k: u16, address: u64, size: u64) -> Result<Answer, Trouble>
         ensures { Performed (asked.Fetch k address size) self.now result self.now }
     {
-        let Stage::Made(machine) = &self.stage else {
-            return Err(Trouble::NoMachine);
-        };
+        let machine = self.stage.machine()?;
         if let Err(e) = machine.spans(k, address, size) {
             return Ok(Answer::Refused(e));
         }
-        let Ok(mut buffer) = vec![in heap; 0u8; size as usize] else {
-            return Err(Trouble::NoRoom);
-        };
-        match machine.fetch(k, address, buffer.as_mut_slice()) {
-            Ok(()) => Ok(Answer::Fetched(buffer)),
-            Err(e) => Ok(Answer::Refused(e)),
-        }
+        let mut buffer = vec![in heap; 0u8; size as usize]?;
+        let filled = machine.fetch(k, address, buffer.as_mut_slice());
+        Ok(filled.map_or_else(Answer::Refused, |()| Answer::Fetched(buffer)))
     }
 
     fn get(&self, k: u16, index: u64) -> Result<Answer, Trouble>
         ensures { Performed (asked.Get k index) self.now result self.now }
     {
-        let Stage::Made(machine) = &self.stage else {
-            return Err(Trouble::NoMachine);
-        };
-        match machine.get(k, index) {
-            Ok(word) => Ok(Answer::Word(word)),
-            Err(e) => Ok(Answer::Refused(e)),
-        }
+        let found = self.stage.machine()?.get(k, index);
+        Ok(found.map_or_else(Answer::Refused, Answer::Word))
     }
 
     // Does what the command asks for and answers, or changes nothing where that cannot be done.

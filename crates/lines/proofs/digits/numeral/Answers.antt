@@ -1,4 +1,5 @@
-use Rattle.std.proofs.Common.{◌≡◌, ℕ, ◌^◌, ◌<◌, ◌≤◌, List, [], ◌∷◌, length, get_or, take, drop, codes, Result, refl, ap, ◌∙◌, inl, inr, arith, MatchResult}
+use Rattle.std.proofs.Common.{◌≡◌, ℕ, ◌^◌, ◌<◌, ◌≤◌, List, [], ◌∷◌, length, get_or, take, drop, codes, Result, refl, ap, ◌∙◌, inl, inr, arith, length-drop, MatchResult}
+use Rattle.std.proofs.lemmas.List.{take_all}
 use Rattle.std.proofs.lemmas.Result.{MatchResult-weaker}
 use Rattle.lines.specs.declared.digits.NoNumber.{NoNumber}
 use Rattle.lines.specs.Numerals.{digit_of_lem, Digits, value_in_lem, Numeral}
@@ -21,7 +22,7 @@ behind_0x w ds r e zero-first x long h =
     let mark : take 2 w ≡ codes "0x" = front w long ∙ ap (λ (a : ℕ). a ∷ get_or w 1 0 ∷ []) zero-first ∙ ap (λ (b : ℕ). 48 ∷ b ∷ []) x in
     MatchResult-weaker r (rw e at h) (λ n p. (p.0, inr (mark, p.1, p.2))) (λ _ none. no_hexadecimal w x long none)
 
-pub returns-then-word-eq120 : goal.returns-then-word-eq120
-returns-then-word-eq120 c =
-    behind_0x c.args.word.now _ c.value_in.result c.split_at.ensures.back c.if-word-eq48.true c.if-word-eq120.true c.if-word-ge2.true
-    c.value_in.ensures
+pub returns-in-48 : goal.returns-in-48
+returns-in-48 c =
+    let w = c.args.word.now in
+    behind_0x w _ c.value_in.result (take_all _ (drop 2 w) (omega (arith, length-drop 2 w))) (omega arith) (omega arith) c.in-48.len_at_least c.value_in.ensures

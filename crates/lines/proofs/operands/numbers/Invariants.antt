@@ -1,5 +1,4 @@
 use Rattle.std.proofs.Common.{◌≡◌, ℕ, ◌<◌, ◌≤◌, [], length, get_or, drop}
-use Rattle.lines.specs.Lines.{words_of}
 use Rattle.lines.specs.Operands.{Gives}
 use Rattle.lines.specs.declared.operand.Operand.TheVariants.{N}
 use Rattle.lines.proofs.operands.numbers.Given as goal
@@ -8,6 +7,6 @@ use Rattle.lines.proofs.operands.numbers.Given as goal
 abbrev pub invariant-loop-i : goal.invariant-loop-i
 invariant-loop-i g l =
     (length l.values ≡ length l.operand-items)
-    × (l.i ≤ length (words_of l.initial.words.rest.now))
-    × (drop l.i (words_of l.initial.words.rest.now) ≡ words_of l.words.rest.now)
-    × ((k : ℕ) → k < l.i → Gives (get_or l.operand-items k N) (get_or (words_of l.initial.words.rest.now) k []) (get_or l.values k 0))
+    × (l.i ≤ length (l.initial.words))
+    × (drop l.i (l.initial.words) ≡ l.words)
+    × ((k : ℕ) → k < l.i → Gives (get_or l.operand-items k N) (get_or (l.initial.words) k []) (get_or l.values k 0))

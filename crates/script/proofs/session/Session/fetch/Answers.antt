@@ -1,34 +1,40 @@
-use Rattle.std.proofs.Common.{◌≡◌, ℕ, List, ◌++◌, length, take, drop, Ok, Err, sym, refl, ap, ◌∙◌, arith}
+use Rattle.std.proofs.Common.{◌≡◌, ℕ, List, ◌++◌, length, take, drop, Ok, Err, Result, sym, refl, ap, ◌∙◌, arith, rules, MatchResult, vec_items, Vec}
+use borrow.Author.Tests.{tests}
 use lib.Seq.{take-append-le}
 use Rattle.std.specs.Vec.{with_items}
 use Rattle.std.proofs.lemmas.List.{take_all}
 use Rattle.machine.specs.Calls.{Fetch}
 use Rattle.machine.specs.Outcomes.{outcome}
-use Rattle.script.specs.Sessions.{needs_machine}
+use Rattle.std.specs.declared.alloc.Global.{Global}
+use Rattle.machine.specs.declared.refusal.Refusal.{Refusal}
+use Rattle.script.specs.Sessions.{needs_machine, FetchTells}
+use Rattle.script.specs.declared.answer.Answer.{Answer}
+use Rattle.script.specs.declared.answer.Answer.TheVariants as answer
 use Rattle.script.specs.Stores.{machine_state}
 use Rattle.script.proofs.session.Session.fetch.Goals as goal
 
 pub returns-in-Err : goal.returns-in-Err
 returns-in-Err c =
+    let is = c.in_ok-machine.ensures in
     let h = c.in-Err.ensures in
-    (ap needs_machine c.in-Made.is, (c.in-Made.machine, h.0, Err c.in-Err.e, c.in-Made.is, h.1, refl, record { stage = refl; rows = refl; plan = refl }))
+    (ap needs_machine is, (_, h.0, Err c.in-Err.e, is, h.1, refl, record { stage = refl; rows = refl; plan = refl }))
 
 -- a buffer that was filled in whole
 whole : (n : ℕ) (xs ys : List ℕ) → length xs ≡ n → take n (xs ++ drop (length xs) ys) ≡ xs
 whole n xs ys e = take-append-le n xs (drop (length xs) ys) (omega arith) ∙ take_all n xs (omega arith)
 
-pub returns-in-Ok-fetch : goal.returns-in-Ok-fetch
-returns-in-Ok-fetch c =
-    let long : length c.as_mut_slice.result.now ≡ c.args.size = omega (arith, c.as_mut_slice.ensures.len, c.in-Ok.ensures.len) in
-    let kept : length c.fetch.new.buffer ≡ c.in-Ok.buffer.len = omega (arith, c.as_mut_slice.ensures.len, c.fetch.auto.buffer) in (
-      ap needs_machine c.in-Made.is,
-      (
-        c.in-Made.machine,
-        c.fetch.new.buffer,
-        Ok tt,
-        c.in-Made.is,
-        ap (λ (n : ℕ). outcome (machine_state c.in-Made.machine) (Fetch c.args.k c.args.address n)) (sym long) ∙ c.in-Ok-fetch.ensures.outcome,
-        (with_items c.in-Ok.buffer c.fetch.new.buffer, refl, whole c.in-Ok.buffer.len c.fetch.new.buffer c.in-Ok.buffer.items kept),
-        record { stage = refl; rows = refl; plan = refl },
-      ),
-    )
+-- what the answer tells, from what each outcome makes it
+tells : (r : Result (Unit {0}) Refusal) (a : Answer) (v : Vec ℕ Global) (bs : List ℕ) → vec_items v ≡ bs → MatchResult r (λ _. a ≡ answer.Fetched v) (λ e. a ≡ answer.Refused e) → FetchTells r bs a
+tells (Ok _) a v bs e is = (v, is, e)
+tells (Err _) a v bs e is = is
+
+pub returns : goal.returns
+returns c =
+    let is = c.in_ok-machine.ensures in
+    let buffer = c.in_ok-buffer.buffer in
+    let filled = c.fetch-filled.new.buffer in
+    let long : length c.as_mut_slice.result.now ≡ c.args.size = omega (arith, c.as_mut_slice.ensures.len, c.in_ok-buffer.ensures.len) in
+    let kept : length filled ≡ buffer.len = omega (arith, c.as_mut_slice.ensures.len, c.fetch-filled.auto.buffer) in
+    let text : MatchResult c.fetch-filled.result (λ _. c.map_or_else.result ≡ answer.Fetched (with_items buffer filled)) (λ e. c.map_or_else.result ≡ answer.Refused e) = search (rules, tests) in
+    let out = ap (λ (n : ℕ). outcome (machine_state c.in_ok-machine.machine.now) (Fetch c.args.k c.args.address n)) (sym long) ∙ c.fetch-filled.ensures.outcome in
+    (ap needs_machine is, (_, filled, c.fetch-filled.result, is, out, tells _ _ (with_items buffer filled) filled (whole buffer.len filled buffer.items kept) text, record { stage = refl; rows = refl; plan = refl }))

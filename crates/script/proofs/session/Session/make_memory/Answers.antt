@@ -1,20 +1,10 @@
-use Rattle.std.proofs.Common.{◌≡◌, ℕ, length, None, refl, ap, ◌∙◌, rules}
+use Rattle.std.proofs.Common.{length, refl, ap, ◌∙◌}
 use lib.ListN.{length-replicate}
-use Rattle.script.specs.Sessions.{needs_no_machine}
-use Rattle.script.specs.Stores.{made_size}
 use Rattle.script.specs.declared.answer.Answer.TheVariants as answer
 use Rattle.script.proofs.session.Session.make_memory.Goals as goal
 
-pub returns-in-Ok : goal.returns-in-Ok
-returns-in-Ok c =
-    let zeros = c.in-Ok.ensures in
-    let free : needs_no_machine c.args.self.now.stage ≡ None = search rules in (
-      free,
-      (
-        c.in-Ok.store,
-        refl,
-        zeros,
-        ap answer.Size (c.size-size.ensures ∙ ap length zeros ∙ length-replicate {A = ℕ} (made_size c.args.make) 0),
-        record { rows = refl; plan = refl },
-      ),
-    )
+pub returns : goal.returns
+returns c =
+    let zeros = c.in_ok-store.ensures in
+    let size = c.size-size.ensures ∙ ap length zeros ∙ length-replicate _ 0 in
+    (c.in_ok-vacant.ensures, (c.in_ok-store.store, refl, zeros, ap answer.Size size, record { rows = refl; plan = refl }))
