@@ -1,4 +1,4 @@
--- A register bank as the list of its words: 0 to 255 the general registers, 256 is P and 257 is S.
+-- A register bank as the list of its words, in the order of the registers.
 use Rattle.std.specs.Prelude.{ℕ, List}
 use Rattle.std.specs.Borrow.{GName}
 use Rattle.bank.specs.declared.guard.Bank.{Bank}

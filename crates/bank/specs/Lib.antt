@@ -1,1 +1,2 @@
 pub mod Banks
+pub mod Registers

@@ -1,6 +1,7 @@
 // The register bank: a guard over a lent work area, which is wiped when the bank ends.
 ghost use Rattle.std.specs.Prelude.{◌≡◌, length, replicate};
 
+// The clauses name the work area, and no model hides it: a lender learns nothing of what a model's drop left.
 pub struct Bank<'a> {
     pub(crate) words: &'a mut [u64],
     ghost full: { length words.now ≡ 258 },
@@ -11,14 +12,6 @@ impl Drop for Bank<'_> {
         ensures { self.exit.0.now ≡ replicate 258 0 }
     {
         let Bank { words } = self;
-        wipe(words);
-    }
-}
-
-fn wipe(words: &mut [u64])
-    ensures { words.new ≡ replicate (length words.old) 0 }
-{
-    for word in words.iter_mut() {
-        *word = 0;
+        words.fill(0);
     }
 }

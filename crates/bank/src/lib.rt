@@ -2,6 +2,8 @@
 #![tactic(auto)]
 
 mod guard;
+mod register;
 mod registers;
 
 pub use guard::Bank;
+pub use register::Register;

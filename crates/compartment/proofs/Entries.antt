@@ -1,29 +1,25 @@
--- The entries of a register file in a memory.
-use Rattle.std.proofs.Common.{◌≡◌, ℕ, zero, suc, ◌+◌, ◌*◌, ◌<◌, ◌≤◌, Bool, true, false, cond, List, ◌++◌, length, get_or, take, drop, sym, refl, ap, ◌∙◌, arith}
+-- The entries of a register file.
+use Rattle.std.proofs.Common.{◌≡◌, ℕ, zero, suc, ◌+◌, ◌*◌, ◌<◌, ◌≤◌, Bool, true, false, cond, List, ◌++◌, length, get_or, drop, sym, refl, add-zero, ap, ◌∙◌, arith}
+use Rattle.std.proofs.lemmas.Bool.Decides.{nat_tests}
 use Rattle.std.specs.List.{range_with_len, flat_map}
-use Rattle.std.proofs.lemmas.List.{append_assoc, append-nil, drop_all, drop-drop, drop_at, length-append, length-drop, take_at, take-append-drop, get_or-take, get_or-drop}
+use Rattle.std.proofs.lemmas.List.{append_assoc, append-nil, drop_all, drop-drop, drop_at, length-append, length-drop, take_at, take-append-drop}
 use Rattle.memory.specs.Bytes.{bytes_of, value_at, put_at}
 use Rattle.memory.proofs.Puts.{put_at_parts}
 use Rattle.isa.specs.Compartments.{entry_bytes, entry_value, keeps, filed}
 use Rattle.isa.proofs.Filing.{written, length_pieces, length_written}
-use Rattle.window.specs.declared.extent.Extent.{Extent}
-use Rattle.window.specs.Views.{seen, replaced, Whole}
-use Rattle.window.proofs.Seeing.{length_seen, put_at_replaced, unchanged, value_at-seen}
+use Rattle.isa.specs.Windows.{placed, load, store}
+use Rattle.window.proofs.Seeing.{value_at-part}
+use Rattle.window.specs.Windows.{Parts}
 
--- a number in a part of a list
-value_at_part : (bs : List ℕ) (off long n : ℕ) → n ≤ long → value_at bs off n ≡ value_at (take long (drop off bs)) 0 n
-unfolding value_at
-value_at_part bs off long zero h = refl
-value_at_part bs off long (suc n) h =
-    let z : 0 + n ≡ n = omega arith in
-    ap (λ (x : ℕ). x * 256 + get_or bs (off + n) 0) (value_at_part bs off long n (omega arith))
-    ∙ ap (λ (x : ℕ). value_at (take long (drop off bs)) 0 n * 256 + x)
-    (sym (ap (λ (k : ℕ). get_or (take long (drop off bs)) k 0) z ∙ get_or-take long (drop off bs) n 0 (omega arith) ∙ get_or-drop off bs n 0))
+-- an access to entry k happens there
+placed_entry : (long k : ℕ) → long ≡ 2064 → k < 258 → placed long 8 (8 * k) ≡ 8 * k
+placed_entry long k l h = grind (arith, nat_tests)
 
--- entry k in the memory is that of the file
-pub entry_seen : (bs : List ℕ) (e : Extent) → Whole bs e → e.max ≡ 2063 → (k : ℕ) → k < 258 → value_at bs (e.off + 8 * k) 8 ≡ entry_value (seen bs e) k
-entry_seen bs e whole m k h =
-    value_at-seen bs e whole (8 * k) 8 (omega arith) ∙ value_at_part (seen bs e) (8 * k) 8 8 (omega arith)
+-- entry k, as it is loaded
+pub load_entry : (file : List ℕ) → length file ≡ 2064 → (k : ℕ) → k < 258 → load file 8 (8 * k) ≡ entry_value file k
+unfolding load
+load_entry file full k h =
+    ap (λ (a : ℕ). value_at file a 8) (placed_entry (length file) k full h) ∙ ap (λ (a : ℕ). value_at file a 8) (sym (add-zero (8 * k))) ∙ value_at-part file (8 * k) 8 0 8 (omega arith)
 
 -- one piece more
 joined_more : (f : ℕ → List ℕ) (a n : ℕ) → flat_map f (range_with_len a (suc n)) ≡ flat_map f (range_with_len a n) ++ f (a + n)
@@ -95,26 +91,24 @@ module _ (file : List ℕ) (saved : ℕ) (registers : List ℕ) (full : length f
       ∙ drop-drop 8 (8 * k) file)
       ∙ sym (split k h ∙ ap (λ (b : Bool). j ++ (cond b (bytes_of 8 v) (entry_bytes file k) ++ drop (8 * k + 8) file)) e)
 
--- the same in a memory: bs₀ before the first entry, bs before entry k, bs' after it
-module _ (bs₀ : List ℕ) (e : Extent) (whole : Whole bs₀ e) (is-file : e.max ≡ 2063) (saved : ℕ) (registers : List ℕ) where
-  full : length (seen bs₀ e) ≡ 2064
-  full = length_seen bs₀ e whole ∙ omega arith
+  pub none_back : (h : Parts) → file ≡ h.window → h ≡ record h { window = filed_to file saved registers 0 }
+  none_back h e = ap (λ (l : List ℕ). record h { window = l }) (sym e) ∙ ap (λ (l : List ℕ). record h { window = l }) (sym filed_to_none)
 
-  pub none_back : bs₀ ≡ replaced bs₀ e (filed_to (seen bs₀ e) saved registers 0)
-  none_back = unchanged bs₀ e whole ∙ ap (λ (l : List ℕ). replaced bs₀ e l) (sym (filed_to_none (seen bs₀ e) saved registers full))
+  pub all_back : (h now : Parts) (k : ℕ) → k ≡ 258 → now ≡ record h { window = filed_to file saved registers k } → now ≡ record h { window = filed file saved registers }
+  all_back h now k z e =
+      e ∙ ap (λ (n : ℕ). record h { window = filed_to file saved registers n }) z ∙ ap (λ (l : List ℕ). record h { window = l }) filed_to_all
 
-  module _ (bs : List ℕ) (k : ℕ) (below : k < 258) (sofar : bs ≡ replaced bs₀ e (filed_to (seen bs₀ e) saved registers k)) where
-    pub left_back : keeps saved k ≡ false → bs ≡ replaced bs₀ e (filed_to (seen bs₀ e) saved registers (k + 1))
-    left_back h = sofar ∙ ap (λ (l : List ℕ). replaced bs₀ e l) (filed_to_left (seen bs₀ e) saved registers full k below h)
+  -- the next entry, left as it is or stored
+  module _ (h : Parts) (k : ℕ) (below : k < 258) (now : Parts) (sofar : now ≡ record h { window = filed_to file saved registers k }) where
+    pub left_back : keeps saved k ≡ false → now ≡ record h { window = filed_to file saved registers (k + 1) }
+    left_back e = sofar ∙ ap (λ (l : List ℕ). record h { window = l }) (filed_to_left k below e)
 
-    pub kept_back : (bs' : List ℕ) → keeps saved k ≡ true → bs' ≡ put_at bs (e.off + 8 * k) 8 (get_or registers k 0) → bs' ≡ replaced bs₀ e (filed_to (seen bs₀ e) saved registers (k + 1))
-    kept_back bs' h put =
+    pub kept_back : (next : Parts) (v : ℕ) → keeps saved k ≡ true → v ≡ get_or registers k 0 → next ≡ record now { window = store now.window 8 (8 * k) v } → next ≡ record h { window = filed_to file saved registers (k + 1) }
+    unfolding store
+    kept_back next v e is put =
+        let at : placed (length (filed_to file saved registers k)) 8 (8 * k) ≡ 8 * k = placed_entry _ k (length-filed_to k (omega arith)) below in
         put
-        ∙ ap (λ (l : List ℕ). put_at l (e.off + 8 * k) 8 (get_or registers k 0)) sofar
-        ∙ put_at_replaced bs₀ e whole (filed_to (seen bs₀ e) saved registers k) (length-filed_to (seen bs₀ e) saved registers full k (omega arith) ∙ omega arith) (8 * k) 8 (get_or registers k 0) (omega arith)
-        ∙ ap (λ (l : List ℕ). replaced bs₀ e l) (filed_to_kept (seen bs₀ e) saved registers full k below h)
-
-  pub all_back : (bs : List ℕ) (k : ℕ) → k ≡ 258 → bs ≡ replaced bs₀ e (filed_to (seen bs₀ e) saved registers k) → bs ≡ replaced bs₀ e (filed (seen bs₀ e) saved registers)
-  all_back bs k z h =
-      h ∙ ap (λ (n : ℕ). replaced bs₀ e (filed_to (seen bs₀ e) saved registers n)) z
-      ∙ ap (λ (l : List ℕ). replaced bs₀ e l) (filed_to_all (seen bs₀ e) saved registers full)
+        ∙ ap (λ (n : Parts). record n { window = store n.window 8 (8 * k) v }) sofar
+        ∙ ap (λ (a : ℕ). record h { window = put_at (filed_to file saved registers k) a 8 v }) at
+        ∙ ap (λ (x : ℕ). record h { window = put_at (filed_to file saved registers k) (8 * k) 8 x }) is
+        ∙ ap (λ (l : List ℕ). record h { window = l }) (filed_to_kept k below e)

@@ -1,5 +1,5 @@
 -- The parts of a compartment's run, put together.
-use Rattle.std.proofs.Common.{◌≡◌, ℕ, ◌+◌, ◌⊎◌, List, length, sym, ap, ◌∙◌}
+use Rattle.std.proofs.Common.{◌≡◌, ℕ, ◌+◌, ◌⊎◌, List, length, sym, ap, ◌∙◌, arith}
 use Rattle.isa.specs.Runs.{ran}
 use Rattle.isa.specs.Compartments.{Ended, started, filed, ended, compartment_ran}
 use Rattle.runs.proofs.Keeps.{runs_keep_lem}
@@ -7,6 +7,9 @@ use Rattle.window.specs.declared.extent.Extent.{Extent}
 use Rattle.window.specs.Views.{seen, replaced, Whole, Before}
 use Rattle.window.proofs.Seeing.{length_seen}
 use Rattle.window.proofs.Apart.{seen_apart}
+
+pub long_file : (bs : List ℕ) (file : Extent) → Whole bs file → file.max ≡ 2063 → length (seen bs file) ≡ 2064
+long_file bs file whole long = omega (arith, length_seen bs file whole)
 
 module _ (bs : List ℕ) (window file : Extent) (saved budget : ℕ) (rs : List ℕ) (start : rs ≡ started (seen bs file) saved) where
   -- the definition, from the registers that were taken in

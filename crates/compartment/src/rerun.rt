@@ -9,7 +9,7 @@ use super::file::{put_back, take_in};
 use bank::Bank;
 use isa::End;
 use memory::Memory;
-use window::Extent;
+use window::{Extent, View, Window};
 
 // How the run ends, and how many instructions were begun. The work area holds the registers, and is wiped.
 pub fn run<M: Memory>(
@@ -30,9 +30,13 @@ pub fn run<M: Memory>(
     ensures bytes { M.Memory.bytes memory.new ≡ replaced (replaced (M.Memory.bytes memory.old) window (compartment_ran (seen (M.Memory.bytes memory.old) window) (seen (M.Memory.bytes memory.old) file) saved budget).window) file (compartment_ran (seen (M.Memory.bytes memory.old) window) (seen (M.Memory.bytes memory.old) file) saved budget).file }
     ensures wiped { work.new ≡ replicate 258 0 }
 {
+    take_in(&View::new(memory, file), saved, work);
     let mut bank = Bank::open(work);
-    take_in(memory, file, saved, &mut bank);
     let ended = cpu::run(memory, window, &mut bank, budget);
-    put_back(memory, file, saved, &bank);
+    let mut file = Window {
+        memory,
+        extent: file,
+    };
+    put_back(&mut file, saved, &bank);
     ended
 }

@@ -1,52 +1,79 @@
--- A run over a memory: one more instruction, and its ends.
-use Rattle.std.proofs.Common.{◌≡◌, ℕ, suc, ◌+◌, ◌-◌, ◌<◌, ◌≤◌, List, length, Some, None, Option, sym, ap, ◌∙◌, arith}
+-- A run that has begun so many instructions: one more, and its ends.
+use Rattle.std.proofs.Common.{◌≡◌, ℕ, suc, ◌+◌, ◌-◌, ◌<◌, ◌≤◌, Some, None, Option, sym, ap, ◌∙◌, subst, arith}
+use Rattle.memory.specs.declared.meaning.Memory.{Ghosts}
 use Rattle.isa.specs.Steps.{Config, stepped}
-use Rattle.isa.specs.Runs.{ran_on}
+use Rattle.isa.specs.Runs.{Ran, ran_on, ran}
 use Rattle.isa.specs.declared.end.End.{End}
 use Rattle.isa.specs.declared.end.End.TheVariants.{Budget}
 use Rattle.isa.proofs.Going.{ran_goes, ran_ends, ran_spent}
-use Rattle.isa.proofs.Lengths.{same_stepped}
-use Rattle.window.specs.declared.extent.Extent.{Extent}
-use Rattle.window.specs.Views.{seen, replaced, Whole}
-use Rattle.window.proofs.Seeing.{length_seen, seen_replaced, replaced_twice}
+use Rattle.window.specs.Windows.{Parts}
+use Rattle.cpu.specs.declared.processor.Processor.{Processor}
+use Rattle.cpu.specs.Processors.{config_of, Reaches}
 
--- bs and rs before an instruction, and bs' and rs' after it
-module _ (e : Extent) (bs bs' rs rs' : List ℕ) (whole : Whole bs e) (b : bs' ≡ replaced bs e (stepped (record { window = seen bs e; registers = rs })).next.window) (r : rs' ≡ (stepped (record { window = seen bs e; registers = rs })).next.registers) where
-  before : Config
-  before = record { window = seen bs e; registers = rs }
+-- what is left of the run is the whole run
+pub record Runs {M : Type 0} {g : Ghosts M} (budget count : ℕ) (first now : Processor M g) : Type 0 where
+  pub left : ran_on (budget - count) count (config_of now) ≡ ran budget (config_of first)
+  pub reaches : Reaches first now (config_of now)
 
-  long : length (stepped (record { window = seen bs e; registers = rs })).next.window ≡ e.max + 1
-  long = (same_stepped (record { window = seen bs e; registers = rs })).window ∙ length_seen bs e whole
+-- how it ends
+pub record RunsTo {M : Type 0} {g : Ghosts M} (budget : ℕ) (first : Processor M g) (end : End) (count : ℕ) (last : Processor M g) : Type 0 where
+  pub end_is : end ≡ (ran budget (config_of first)).end
+  pub count_is : count ≡ (ran budget (config_of first)).count
+  pub reaches : Reaches first last (ran budget (config_of first)).last
 
-  window_is : seen bs' e ≡ (stepped (record { window = seen bs e; registers = rs })).next.window
-  window_is = ap (λ (x : List ℕ). seen x e) b ∙ seen_replaced bs e whole _ long
+module _ {M : Type 0} {g : Ghosts M} (first now next : Processor M g) (b c : Config) where
+  pub reaches_more : Reaches first now b → Reaches now next c → Reaches first next c
+  reaches_more p q =
+      record {
+        window = q.window ∙ ap (λ (h : Parts). record h { window = c.window }) p.window;
+        words = q.words;
+        lent = q.lent ∙ p.lent;
+        same_memory = q.same_memory ∙ p.same_memory;
+        same_bank = q.same_bank ∙ p.same_bank;
+      }
 
-  next_is : (stepped (record { window = seen bs e; registers = rs })).next ≡ record { window = seen bs' e; registers = rs' }
-  next_is = λ i. record { window = sym window_is i; registers = sym r i }
+  config_is : Reaches now next c → c ≡ config_of next
+  config_is q =
+      λ i. record { window = sym (ap (λ (h : Parts). h.window) q.window) i; registers = sym q.words i }
 
-  -- the frame, from the start of the run on
-  pub frame_more : (bs₀ : List ℕ) → Whole bs₀ e → bs ≡ replaced bs₀ e (seen bs e) → bs' ≡ replaced bs₀ e (seen bs' e)
-  frame_more bs₀ w f =
-      b
-      ∙ ap (λ (x : List ℕ). replaced x e (stepped (record { window = seen bs e; registers = rs })).next.window) f
-      ∙ replaced_twice bs₀ e w (seen bs e) _ (length_seen bs e whole) long
-      ∙ ap (λ (x : List ℕ). replaced bs₀ e x) (sym window_is)
+module _ {M : Type 0} {g : Ghosts M} (budget count : ℕ) (first now : Processor M g) (runs : Runs budget count first now) where
+  ended : (r : Ran) → ran_on (budget - count) count (config_of now) ≡ r → (last : Processor M g) → Reaches first last r.last → RunsTo budget first r.end r.count last
+  ended r e last m =
+      let is : r ≡ ran budget (config_of first) = sym e ∙ runs.left in
+      let P : Ran → Type 0 = λ x. Reaches first last x.last in
+      record {
+        end_is = ap (λ (x : Ran). x.end) is;
+        count_is = ap (λ (x : Ran). x.count) is;
+        reaches = subst P is m;
+      }
 
-  module _ (budget count : ℕ) (some : count < budget) where
-    left : budget - count ≡ suc (budget - (count + 1))
-    left = omega arith
+  pub run_spent : budget ≤ count → count ≤ budget → RunsTo budget first Budget budget now
+  run_spent h k =
+      let z : budget - count ≡ 0 = omega arith in
+      let same : count ≡ budget = omega arith in
+      ended (record { end = Budget; count = budget; last = config_of now })
+      (ap (λ (n : ℕ). ran_on n count (config_of now)) z ∙ ran_spent count (config_of now) ∙ ap (λ (n : ℕ). record { end = Budget; count = n; last = config_of now }) same)
+      now runs.reaches
 
-    pub run_more : (o : Option End) → o ≡ (stepped (record { window = seen bs e; registers = rs })).end → o ≡ None → ran_on (budget - count) count (record { window = seen bs e; registers = rs }) ≡ ran_on (budget - (count + 1)) (count + 1) (record { window = seen bs' e; registers = rs' })
-    run_more o q n =
-        ap (λ (k : ℕ). ran_on k count (record { window = seen bs e; registers = rs })) left
-        ∙ ran_goes (budget - (count + 1)) count _ (sym q ∙ n)
-        ∙ ap (λ (d : Config). ran_on (budget - (count + 1)) (count + 1) d) next_is
+  module _ (some : count < budget) (o : Option End) (end_is : o ≡ (stepped (config_of now)).end) (next : Processor M g) (reaches : Reaches now next (stepped (config_of now)).next) where
+    one : budget - count ≡ suc (budget - (count + 1))
+    one = omega arith
 
-    pub run_ends : (o : Option End) (end : End) → o ≡ (stepped (record { window = seen bs e; registers = rs })).end → o ≡ Some end → ran_on (budget - count) count (record { window = seen bs e; registers = rs }) ≡ record { end = end; count = count + 1; last = record { window = seen bs' e; registers = rs' } }
-    run_ends o end q n =
-        ap (λ (k : ℕ). ran_on k count (record { window = seen bs e; registers = rs })) left
-        ∙ ran_ends (budget - (count + 1)) count _ end (sym q ∙ n)
-        ∙ ap (λ (d : Config). record { end = end; count = count + 1; last = d }) next_is
+    pub run_more : o ≡ None → Runs budget (count + 1) first next
+    run_more h =
+        let is = config_is first now next (config_of now) (stepped (config_of now)).next reaches in
+        let P : Config → Type 0 = λ x. Reaches first next x in
+        record {
+          left =
+              sym (ap (λ (n : ℕ). ran_on n count (config_of now)) one
+              ∙ ran_goes (budget - (count + 1)) count (config_of now) (sym end_is ∙ h)
+              ∙ ap (λ (x : Config). ran_on (budget - (count + 1)) (count + 1) x) is)
+              ∙ runs.left;
+          reaches = subst P is (reaches_more first now next _ _ runs.reaches reaches);
+        }
 
-pub run_spent : (budget count : ℕ) (c : Config) → budget ≤ count → ran_on (budget - count) count c ≡ record { end = Budget; count = count; last = c }
-run_spent budget count c h = let z : budget - count ≡ 0 = omega arith in ap (λ (k : ℕ). ran_on k count c) z ∙ ran_spent count c
+    pub run_ends : (end : End) → o ≡ Some end → RunsTo budget first end (count + 1) next
+    run_ends end h =
+        ended (record { end = end; count = count + 1; last = (stepped (config_of now)).next })
+        (ap (λ (n : ℕ). ran_on n count (config_of now)) one ∙ ran_ends (budget - (count + 1)) count (config_of now) end (sym end_is ∙ h))
+        next (reaches_more first now next _ _ runs.reaches reaches)

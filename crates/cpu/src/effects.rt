@@ -1,28 +1,29 @@
 // The effect of each operation, in the order of the opcodes.
-ghost use Rattle.std.specs.Prelude.{◌≡◌, Some, None};
+ghost use Rattle.std.specs.Option.{option_map_or};
+ghost use Rattle.std.specs.Prelude.{◌≡◌};
 ghost use Rattle.bank.specs.Banks.{words_of};
 ghost use Rattle.isa.specs.Effects.{effect_of};
 ghost use Rattle.isa.specs.declared.effect.Effect.TheVariants.{Sets, Faults};
 ghost use Rattle.isa.specs.declared.end.End.TheVariants.{IntegerMath};
 ghost use Rattle.isa.specs.Steps.{sources_of};
 
-use bank::Bank;
+use bank::{Bank, Register};
 use isa::{Effect, End, Operands, Operation};
 
 fn sets(register: u8, value: Option<u64>) -> Effect
-    ensures { result ≡ elim value [ Some v ↦ Sets register v | None ↦ Faults IntegerMath ] }
+    ensures { result ≡ option_map_or (λ v. Sets register v) value (Faults IntegerMath) }
 {
-    match value {
-        Some(value) => Effect::Sets(register, value),
-        None => Effect::Faults(End::IntegerMath),
-    }
+    value.map_or(
+        Effect::Faults(End::IntegerMath),
+        |value| Effect::Sets(register, value),
+    )
 }
 
 // One match, since each operation has its own row.
 pub(crate) fn weigh(operation: Operation, i: Operands, bank: &Bank<'_>) -> Effect
     ensures { result ≡ effect_of operation i (sources_of (words_of bank.now) i) }
 {
-    let (r, s, t) = (bank.general(i.r), bank.general(i.s), bank.general(i.t));
+    let [r, s, t] = [i.r, i.s, i.t].map(|register| bank.get(Register::General(register)));
     match operation {
         Operation::Halt => Effect::Ends(End::Halt),
         Operation::Nop => Effect::Nothing,
@@ -43,8 +44,8 @@ pub(crate) fn weigh(operation: Operation, i: Operands, bank: &Bank<'_>) -> Effec
         Operation::Xor => Effect::Sets(i.r, r ^ s),
         Operation::Complement => Effect::Sets(i.r, u64::MAX - r),
         Operation::Negate => Effect::Sets(i.r, 0u64.wrapping_sub(r)),
-        Operation::Bool => Effect::Sets(i.r, if r == 0 { 0 } else { 1 }),
-        Operation::Not => Effect::Sets(i.r, if r == 0 { 1 } else { 0 }),
+        Operation::Bool => Effect::Sets(i.r, u64::from(r != 0)),
+        Operation::Not => Effect::Sets(i.r, u64::from(r == 0)),
         Operation::Add => Effect::Sets(i.r, r.wrapping_add(s)),
         Operation::Subtract => Effect::Sets(i.r, r.wrapping_sub(s)),
         Operation::Multiply => Effect::Sets(i.r, r.wrapping_mul(s)),
@@ -69,14 +70,22 @@ pub(crate) fn weigh(operation: Operation, i: Operands, bank: &Bank<'_>) -> Effec
             Effect::Nothing
         },
         Operation::Return => Effect::Returns,
-        Operation::GetStack => Effect::Sets(i.r, bank.s()),
+        Operation::GetStack => Effect::Sets(i.r, bank.get(Register::S)),
         Operation::SetStack => Effect::Stacks(r),
         Operation::Push(n) => Effect::Pushes(n, r),
         Operation::Pop(n) => Effect::Pops(i.r, n),
         Operation::Increment => Effect::Sets(i.r, r.wrapping_add(1)),
         Operation::Decrement => Effect::Sets(i.r, r.wrapping_sub(1)),
-        Operation::LoadStack(n) => Effect::Loads(i.r, n, bank.s().wrapping_sub(i.literal)),
-        Operation::StoreStack(n) => Effect::Stores(n, bank.s().wrapping_sub(i.literal), r),
+        Operation::LoadStack(n) => Effect::Loads(
+            i.r,
+            n,
+            bank.get(Register::S).wrapping_sub(i.literal),
+        ),
+        Operation::StoreStack(n) => Effect::Stores(
+            n,
+            bank.get(Register::S).wrapping_sub(i.literal),
+            r,
+        ),
         Operation::Reverse(n) => Effect::Sets(i.r, numbers::reverse(n, r)),
         Operation::MoveNotZero => if r == 0 {
             Effect::Nothing

@@ -1,9 +1,9 @@
-// Running instructions over any memory and any window: reading one, performing it, and the run of a budget.
+// Running instructions on a window and a bank: performing one, and the run of a budget.
 #![tactic(auto)]
 
 mod budget;
 mod effects;
-mod steps;
+mod processor;
 
 pub use budget::run;
-pub use steps::{perform, read};
+pub use processor::Processor;

@@ -1,10 +1,10 @@
 // A window over any memory: loads and stores that all happen inside of it.
 #![tactic(auto)]
 
-mod access;
 mod extent;
 mod view;
+mod window;
 
-pub use access::{load, store};
 pub use extent::Extent;
 pub use view::View;
+pub use window::Window;
