@@ -5,7 +5,7 @@ use Rattle.std.proofs.lemmas.List.{length-append, length-take, length-drop, take
 use Rattle.std.proofs.ByRecursion.{All-append, All-map, All-take, All-drop}
 use Rattle.std.proofs.lemmas.Bool.Decides.{nat_tests}
 use Rattle.memory.specs.Bytes.{bytes_of}
-use Rattle.memory.proofs.Digits.{length-bytes_of}
+use Rattle.memory.specs.Elements.{length-bytes_of}
 use Rattle.memory.proofs.Bounds.{Small, value_at_below, all_bytes_of}
 use Rattle.isa.specs.Compartments.{entry_bytes, entry_value, keeps, started, filed}
 

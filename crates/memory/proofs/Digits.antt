@@ -1,41 +1,38 @@
 -- Numbers as bytes, highest first: what the byte-order methods give, and one byte of many changed.
-use Rattle.std.proofs.Common.{◌≡◌, ℕ, zero, suc, ◌+◌, ◌-◌, ◌*◌, ◌/◌, ◌%◌, ◌<◌, ◌≤◌, List, [], ◌∷◌, ◌++◌, length, get_or, take, set, sym, refl, ap, ◌∙◌, ⊎_elim, not-suc-le-zero, arith, length-append, length-set, take_all, get_or-set_other, take-suc, get_or-set_same}
+use Rattle.std.proofs.Common.{◌≡◌, ℕ, zero, suc, ◌+◌, ◌-◌, ◌*◌, ◌/◌, ◌%◌, ◌<◌, ◌≤◌, List, [], ◌∷◌, ◌++◌, length, get_or, take, set, sym, refl, ap, ◌∙◌, ⊎_elim, not-suc-le-zero, arith, length-set, take_all, get_or-set_other, take-suc, get_or-set_same}
 use native.Mathlib.Nat.{div-div-eq-div-mul}
 use lib.Arith.{digits_div, digits_mod}
 use Rattle.std.specs.List.{flat_map}
 use Rattle.std.proofs.lemmas.List.{get_or_append_left, set-append_left, set-append_right, get_or-append_right, set_past}
 use Rattle.std.proofs.lemmas.Bool.{cases_eq, cases_lt}
 use Rattle.memory.specs.Bytes.{bytes_of, bytes_of_all, value_at}
+use Rattle.memory.specs.Elements.{length-bytes_of}
 
--- what `to_be_bytes` gives
+-- what `to_be_bytes` gives, at each size
+pub to_be_2 : (v : ℕ) → (v / 256 % 256) ∷ (v % 256) ∷ [] ≡ bytes_of 2 v
+unfolding bytes_of
+to_be_2 v = refl
+
+pub to_be_4 : (v : ℕ) → (v / 16777216 % 256) ∷ (v / 65536 % 256) ∷ (v / 256 % 256) ∷ (v % 256) ∷ [] ≡ bytes_of 4 v
+unfolding bytes_of
+to_be_4 v = simp div-div-eq-div-mul
+
 pub to_be : (v : ℕ) → (v / 72057594037927936 % 256) ∷ (v / 281474976710656 % 256) ∷ (v / 1099511627776 % 256) ∷ (v / 4294967296 % 256) ∷ (v / 16777216 % 256) ∷ (v / 65536 % 256) ∷ (v / 256 % 256) ∷ (v % 256) ∷ [] ≡ bytes_of 8 v
 unfolding bytes_of
 to_be v = simp div-div-eq-div-mul
 
--- each byte of it alone
-pub to_be_each :
-    (ps : List ℕ) (v : ℕ)
-    → ps ≡ bytes_of 8 v
-    → (get_or ps 7 0 ≡ v % 256)
-    × (get_or ps 6 0 ≡ v / 256 % 256)
-    × (get_or ps 5 0 ≡ v / 256 / 256 % 256)
-    × (get_or ps 4 0 ≡ v / 256 / 256 / 256 % 256)
-    × (get_or ps 3 0 ≡ v / 256 / 256 / 256 / 256 % 256)
-    × (get_or ps 2 0 ≡ v / 256 / 256 / 256 / 256 / 256 % 256)
-    × (get_or ps 1 0 ≡ v / 256 / 256 / 256 / 256 / 256 / 256 % 256)
-    × (get_or ps 0 0 ≡ v / 256 / 256 / 256 / 256 / 256 / 256 / 256 % 256)
-unfolding bytes_of
-to_be_each ps v e = rw e (refl, refl, refl, refl, refl, refl, refl, refl)
+-- what `from_be_bytes` gives, at each size
+pub from_be_2 : (bs : List ℕ) → get_or bs 0 0 * 256 + get_or bs 1 0 ≡ value_at bs 0 2
+unfolding value_at
+from_be_2 bs = omega arith
 
--- what `from_be_bytes` gives
+pub from_be_4 : (bs : List ℕ) → get_or bs 0 0 * 16777216 + get_or bs 1 0 * 65536 + get_or bs 2 0 * 256 + get_or bs 3 0 ≡ value_at bs 0 4
+unfolding value_at
+from_be_4 bs = omega arith
+
 pub from_be : (bs : List ℕ) → get_or bs 0 0 * 72057594037927936 + get_or bs 1 0 * 281474976710656 + get_or bs 2 0 * 1099511627776 + get_or bs 3 0 * 4294967296 + get_or bs 4 0 * 16777216 + get_or bs 5 0 * 65536 + get_or bs 6 0 * 256 + get_or bs 7 0 ≡ value_at bs 0 8
 unfolding value_at
 from_be bs = omega arith
-
-pub length-bytes_of : (n v : ℕ) → length (bytes_of n v) ≡ n
-unfolding bytes_of
-length-bytes_of zero v = refl
-length-bytes_of (suc n) v = simp length-append (omega (arith, length-bytes_of n (v / 256)))
 
 -- the bytes of the number that bytes stand for
 bytes_of-value_at : (bs : List ℕ) (n : ℕ) → n ≤ length bs → ((k : ℕ) → get_or bs k 0 < 256) → bytes_of n (value_at bs 0 n) ≡ take n bs
@@ -64,11 +61,6 @@ bytes_of_small (suc n) v k =
     (λ (h : k < n). rw (get_or_append_left (bytes_of n (v / 256)) (v % 256 ∷ []) 0 k (omega arith)) (bytes_of_small n (v / 256) k))
     (λ (h : n ≤ k). rw (get_or-append_right (bytes_of n (v / 256)) (v % 256 ∷ []) n k 0 e h) (one (k - n) (v % 256) (omega arith)))
     (cases_lt k n)
-
-pub length_all : (ws : List ℕ) → length (bytes_of_all ws) ≡ 8 * length ws
-unfolding bytes_of_all
-length_all [] = refl
-length_all (w ∷ ws) = simp length-append (omega (arith, length_all ws, length-bytes_of 8 w))
 
 -- byte r of word q
 slice_index_all : (ws : List ℕ) (q r : ℕ) → q < length ws → r < 8 → get_or (bytes_of_all ws) (8 * q + r) 0 ≡ get_or (bytes_of 8 (get_or ws q 0)) r 0

@@ -1,5 +1,5 @@
 -- Laws of `value_at` and `put_at`, over the number of bytes.
-use Rattle.std.proofs.Common.{◌≡◌, ℕ, zero, suc, ◌+◌, ◌*◌, ◌/◌, ◌%◌, ◌^◌, ◌<◌, ◌≤◌, ◌≢◌, ◌⊎◌, List, [], ◌∷◌, ◌++◌, length, get_or, take, drop, set, sym, refl, ap, ◌∙◌, inl, inr, ⊎_elim, pow-suc, arith, length-drop, length-set, get_or-drop, get_or-set_other, take-suc, get_or-set_same}
+use Rattle.std.proofs.Common.{◌≡◌, ℕ, zero, suc, ◌+◌, ◌*◌, ◌/◌, ◌%◌, ◌^◌, ◌<◌, ◌≤◌, ◌≢◌, ◌⊎◌, List, [], ◌∷◌, ◌++◌, length, get_or, take, drop, set, sym, refl, ap, ◌∙◌, inl, inr, ⊎_elim, pow-suc, arith, length-drop, length-set, get_or-drop, get_or-set_other, take-suc, get_or-set_same, zero-add}
 use lib.Arith.{mod-mul}
 use Rattle.std.proofs.lemmas.List.{drop-drop, drop-set-lt, get_or_past, set_past, take-append-drop, take-set-le}
 use Rattle.memory.specs.Bytes.{bytes_of, value_at, put_at}
@@ -26,7 +26,7 @@ last_put_at bs a n v h =
     slice_index-put_at (set bs (a + n) (v % 256)) a n (v / 256) (a + n) (inr (omega arith))
     ∙ get_or-set_same bs (a + n) (v % 256) 0 (omega arith)
 
-big : (n : ℕ) → 0 < 256 ^ n
+pub big : (n : ℕ) → 0 < 256 ^ n
 big zero = omega arith
 big (suc n) = let h = big n in rw (pow-suc 256 n) (omega arith)
 
@@ -55,6 +55,16 @@ bytes_put_at bs a (suc n) v h =
 
 pub accesses_stand_lem : AccessesStand
 accesses_stand_lem bs a n v = (length-put_at bs a n v, slice_index-put_at bs a n v, value_at-put_at bs a n v, bytes_put_at bs a n v)
+
+-- bytes that were gathered stand for what they did in their place
+pub value_at-gathered : (ps bs : List ℕ) (a n : ℕ) → ((k : ℕ) → k < n → get_or ps k 0 ≡ get_or bs (a + k) 0) → value_at ps 0 n ≡ value_at bs a n
+unfolding value_at
+value_at-gathered ps bs a zero h = refl
+value_at-gathered ps bs a (suc n) h =
+    let u : value_at ps 0 n ≡ value_at bs a n = value_at-gathered ps bs a n (λ k l. h k (omega arith)) in
+    let w : get_or ps n 0 ≡ get_or bs (a + n) 0 = h n (omega arith) in
+    let z : get_or ps (0 + n) 0 ≡ get_or ps n 0 = rw (zero-add n) refl in
+    omega arith
 
 -- past the end there is nothing to load or store
 pub value_at_past : (bs : List ℕ) (a n : ℕ) → length bs ≤ a → 0 ≡ value_at bs a n

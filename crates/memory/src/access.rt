@@ -1,10 +1,19 @@
 // Big-endian access of one to eight bytes over any memory, a byte at a time.
-ghost use Rattle.std.specs.Prelude.{◌≡◌};
+ghost use Rattle.std.specs.Prelude.{◌≡◌, ℕ, ◌+◌, ◌^◌, ◌<◌, ◌≤◌, length, slice_index};
 ghost use Rattle.memory.specs.Bytes.{value_at, put_at};
 ghost use Rattle.memory.specs.Widths.{width_bytes};
 
 use super::meaning::{LIMIT, Memory};
 use super::width::Width;
+
+// The N bytes from the address on. What walks from an address asks that the sum does not wrap; all callers have tested it.
+fn gather<M: Memory, const N: usize>(memory: &M, address: u64) -> [u8; N]
+    requires { address + N ≤ 2 ^ 64 }
+    ensures length { length result ≡ N }
+    ensures each { (k : ℕ) → k < N → slice_index result k ≡ slice_index (M.Memory.bytes memory.now) (address + k) }
+{
+    std::array::from_fn(|i| memory.read(address + i as u64))
+}
 
 // The number that the bytes from the address on stand for; a place that the memory lacks counts as 0.
 pub fn load<M: Memory>(memory: &M, address: u64, width: Width) -> u64
@@ -15,26 +24,19 @@ pub fn load<M: Memory>(memory: &M, address: u64, width: Width) -> u64
     }
     match width {
         Width::Byte => u64::from(memory.read(address)),
-        Width::Short => u64::from(u16::from_be_bytes([
-            memory.read(address),
-            memory.read(address + 1),
-        ])),
-        Width::Long => u64::from(u32::from_be_bytes([
-            memory.read(address),
-            memory.read(address + 1),
-            memory.read(address + 2),
-            memory.read(address + 3),
-        ])),
-        Width::Qword => u64::from_be_bytes([
-            memory.read(address),
-            memory.read(address + 1),
-            memory.read(address + 2),
-            memory.read(address + 3),
-            memory.read(address + 4),
-            memory.read(address + 5),
-            memory.read(address + 6),
-            memory.read(address + 7),
-        ]),
+        Width::Short => u64::from(u16::from_be_bytes(gather(memory, address))),
+        Width::Long => u64::from(u32::from_be_bytes(gather(memory, address))),
+        Width::Qword => u64::from_be_bytes(gather(memory, address)),
+    }
+}
+
+// Puts the bytes in their places from the address on, the last one first.
+fn scatter<M: Memory, const N: usize>(memory: &mut M, address: u64, bytes: [u8; N])
+    requires { address + N ≤ 2 ^ 64 }
+    ensures { M.Memory.bytes memory.new ≡ put_at (M.Memory.bytes memory.old) address N (value_at bytes.entry 0 N) }
+{
+    for (i, byte) in bytes.iter().enumerate().rev() {
+        memory.write(address + i as u64, *byte);
     }
 }
 
@@ -45,28 +47,14 @@ pub fn store<M: Memory>(memory: &mut M, address: u64, width: Width, value: u64)
     if address >= LIMIT {
         return;
     }
-    let [a, b, c, d, e, f, g, h] = value.to_be_bytes();
     match width {
-        Width::Byte => memory.write(address, h),
-        Width::Short => {
-            memory.write(address + 1, h);
-            memory.write(address, g);
-        }
-        Width::Long => {
-            memory.write(address + 3, h);
-            memory.write(address + 2, g);
-            memory.write(address + 1, f);
-            memory.write(address, e);
-        }
-        Width::Qword => {
-            memory.write(address + 7, h);
-            memory.write(address + 6, g);
-            memory.write(address + 5, f);
-            memory.write(address + 4, e);
-            memory.write(address + 3, d);
-            memory.write(address + 2, c);
-            memory.write(address + 1, b);
-            memory.write(address, a);
-        }
+        Width::Byte => memory.write(address, (value & 0xff) as u8),
+        Width::Short => scatter(memory, address, ((value & 0xffff) as u16).to_be_bytes()),
+        Width::Long => scatter(
+            memory,
+            address,
+            ((value & 0xffff_ffff) as u32).to_be_bytes(),
+        ),
+        Width::Qword => scatter(memory, address, value.to_be_bytes()),
     }
 }

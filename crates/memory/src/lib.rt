@@ -2,17 +2,17 @@
 #![tactic(auto)]
 
 mod access;
-mod flat;
+mod element;
 mod laws;
 mod meaning;
+mod owned;
 mod spliced;
 mod width;
-mod words;
 
 pub use access::{load, store};
-pub use flat::Flat;
+pub use element::Element;
 pub use laws::accesses_stand;
 pub use meaning::Memory;
+pub use owned::{Flat, Owned, Words};
 pub use spliced::Spliced;
 pub use width::Width;
-pub use words::Words;

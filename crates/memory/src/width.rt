@@ -4,21 +4,17 @@ ghost use Rattle.memory.specs.Widths.{width_bytes};
 
 #[derive(Clone, Copy, PartialEq, Eq, Debug)]
 pub enum Width {
-    Byte,
-    Short,
-    Long,
-    Qword,
+    Byte = 1,
+    Short = 2,
+    Long = 4,
+    Qword = 8,
 }
 
 impl Width {
+    // A method and no `From`, since a width has a number of bytes and is none.
     pub fn bytes(self) -> u64
         ensures { result ≡ width_bytes self }
     {
-        match self {
-            Width::Byte => 1,
-            Width::Short => 2,
-            Width::Long => 4,
-            Width::Qword => 8,
-        }
+        self as u64
     }
 }

@@ -1,0 +1,80 @@
+-- One byte more of several that are put in their places, the last one first.
+use Rattle.std.proofs.Common.{◌≡◌, ℕ, zero, suc, ◌+◌, ◌*◌, ◌/◌, ◌%◌, ◌^◌, ◌<◌, List, [], ◌∷◌, ◌++◌, length, get_or, take, set, sym, refl, ap, ◌∙◌, zero-add, pow-suc, arith, get_or-take}
+use lib.Arith.{digits_div, digits_mod, mod-mul}
+use Rattle.std.proofs.Math.Seq.{take-append_seam}
+use Rattle.std.proofs.lemmas.List.{length_push, get_or_append_left, get_or_push, take-take}
+use Rattle.memory.specs.Bytes.{bytes_of, value_at, put_at}
+use Rattle.memory.specs.Elements.{length-bytes_of}
+use Rattle.memory.proofs.Puts.{big, put_none, value_at-gathered}
+
+put_last : (ps ms : List ℕ) (a n b : ℕ) → get_or ps n 0 ≡ b → b < 256 → put_at ms a (suc n) (value_at ps 0 (suc n)) ≡ put_at (set ms (a + n) b) a n (value_at ps 0 n)
+unfolding value_at put_at
+put_last ps ms a n b e small =
+    let v = value_at ps 0 n in
+    let z : get_or ps (0 + n) 0 ≡ b = rw (zero-add n) e in
+    ap (λ (x : ℕ). put_at (set ms (a + n) ((v * 256 + x) % 256)) a n ((v * 256 + x) / 256)) z
+    ∙ ap (λ (x : ℕ). put_at (set ms (a + n) x) a n ((v * 256 + b) / 256)) (digits_mod v small)
+    ∙ ap (λ (x : ℕ). put_at (set ms (a + n) b) a n x) (digits_div v small)
+
+-- of the bytes ps, those in front are left: b, the last of them, and what stands before it
+module _ (ps front next : List ℕ) (b : ℕ) (is : front ≡ next ++ b ∷ []) (part : front ≡ take (length front) ps) where
+  pub one_less : length front ≡ suc (length next)
+  one_less = rw is (omega (arith, length_push next b))
+
+  last_is : get_or ps (length next) 0 ≡ b
+  last_is =
+      let l : length next < length front = omega (arith, one_less) in
+      sym (get_or-take (length front) ps (length next) 0 l)
+      ∙ ap (λ (l : List ℕ). get_or l (length next) 0) (sym part ∙ is)
+      ∙ get_or_push next b 0 (length next) refl
+
+  pub next_is : next ≡ take (length next) ps
+  next_is =
+      sym (take-append_seam next (b ∷ []))
+      ∙ ap (λ (l : List ℕ). take (length next) l) (sym is ∙ part)
+      ∙ take-take (length next) (length front) ps (omega (arith, one_less))
+
+  pub put_step : (ms : List ℕ) (a i : ℕ) → i ≡ length next → b < 256 → put_at (set ms (a + i) b) a (length next) (value_at ps 0 (length next)) ≡ put_at ms a (length front) (value_at ps 0 (length front))
+  put_step ms a i e small = rw (e, one_less) (sym (put_last ps ms a (length next) b last_is small))
+
+pub put_done : (ms ws : List ℕ) (a n v : ℕ) → n ≡ 0 → put_at ms a n v ≡ ws → ms ≡ ws
+put_done ms ws a n v e h = put_none ms a v ∙ ap (λ (k : ℕ). put_at ms a k v) (sym e) ∙ h
+
+parts : (n v : ℕ) → v % 256 ^ suc n ≡ (v / 256 % 256 ^ n) * 256 + v % 256
+parts n v = ap (λ (x : ℕ). v % x) (pow-suc 256 n) ∙ mod-mul v {m = 256 ^ n} {c = 256} (big n) (omega arith)
+
+-- only the low bytes of a number are put
+pub put_at-low : (ms : List ℕ) (a n v : ℕ) → put_at ms a n (v % 256 ^ n) ≡ put_at ms a n v
+unfolding put_at
+put_at-low ms a zero v = refl
+put_at-low ms a (suc n) v =
+    let small : v % 256 < 256 = omega arith in
+    ap (λ (w : ℕ). put_at (set ms (a + n) (w % 256)) a n (w / 256)) (parts n v)
+    ∙ ap (λ (x : ℕ). put_at (set ms (a + n) x) a n (((v / 256 % 256 ^ n) * 256 + v % 256) / 256)) (digits_mod (v / 256 % 256 ^ n) small)
+    ∙ ap (λ (x : ℕ). put_at (set ms (a + n) (v % 256)) a n x) (digits_div (v / 256 % 256 ^ n) small)
+    ∙ put_at-low (set ms (a + n) (v % 256)) a n (v / 256)
+
+-- the bytes of a number stand for its low part
+value_at-bytes_of : (n v : ℕ) → value_at (bytes_of n v) 0 n ≡ v % 256 ^ n
+unfolding value_at bytes_of
+value_at-bytes_of zero v = omega arith
+value_at-bytes_of (suc n) v =
+    let xs = bytes_of n (v / 256) in
+    let b = v % 256 in
+    let long = length-bytes_of n (v / 256) in
+    let front : value_at (xs ++ b ∷ []) 0 n ≡ value_at xs 0 n =
+    value_at-gathered (xs ++ b ∷ []) xs 0 n (λ k l. get_or_append_left xs (b ∷ []) 0 k (omega arith) ∙ ap (λ (j : ℕ). get_or xs j 0) (sym (zero-add k))) in
+    let end : get_or (xs ++ b ∷ []) (0 + n) 0 ≡ b = get_or_push xs b 0 (0 + n) (omega arith) in
+    ap (λ (x : ℕ). x * 256 + get_or (xs ++ b ∷ []) (0 + n) 0) (front ∙ value_at-bytes_of n (v / 256))
+    ∙ ap (λ (x : ℕ). (v / 256 % 256 ^ n) * 256 + x) end
+    ∙ sym (parts n v)
+
+pub put_bytes_of : (ms ps : List ℕ) (a n v : ℕ) → ps ≡ bytes_of n v → put_at ms a n (value_at ps 0 n) ≡ put_at ms a n v
+put_bytes_of ms ps a n v e =
+    ap (λ (l : List ℕ). put_at ms a n (value_at l 0 n)) e
+    ∙ ap (λ (x : ℕ). put_at ms a n x) (value_at-bytes_of n v)
+    ∙ put_at-low ms a n v
+
+-- a number cut to its low bytes is put as the number is
+pub put_masked : (ms : List ℕ) (a n v x : ℕ) → x ≡ v % 256 ^ n → put_at ms a n x ≡ put_at ms a n v
+put_masked ms a n v x e = ap (λ (y : ℕ). put_at ms a n y) e ∙ put_at-low ms a n v

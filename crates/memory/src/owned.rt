@@ -1,0 +1,69 @@
+// A memory over numbers of one kind that are handed in.
+ghost use Rattle.std.specs.Prelude.{◌≡◌, length, slice_set};
+ghost use Rattle.memory.specs.Bytes.{cut, past};
+ghost use Rattle.memory.specs.Makes.{owned_bytes};
+ghost use Rattle.memory.specs.Cuts.{cut_short};
+
+use super::element::Element;
+use super::meaning::{LIMIT, Memory};
+
+#[derive(Drop)]
+pub struct Owned<E> {
+    held: Vec<E>,
+}
+
+// Bytes, and numbers of 64 bits that each stand for eight bytes.
+pub type Flat = Owned<u8>;
+
+pub type Words = Owned<u64>;
+
+impl<E: Element> Owned<E> {
+    pub fn new(held: Vec<E>) -> Owned<E>
+        ensures shown { owned_bytes E.spread result ≡ cut (E.spread held.items) }
+        ensures kept { result.held ≡ held }
+    {
+        Owned { held }
+    }
+
+    // The numbers as they now are, with those past the limit.
+    pub fn into_inner(self) -> Vec<E>
+        ensures shown { cut (E.spread result.items) ≡ owned_bytes E.spread self }
+        ensures kept { result ≡ self.held }
+    {
+        let Owned { held } = self;
+        held
+    }
+}
+
+impl<E: Element> Memory for Owned<E> {
+    ghost bytes = { owned_bytes E.spread };
+
+    ghost short = { λ m. cut_short (E.spread m.held.items) };
+
+    fn size(&self) -> u64 {
+        let n = self.held.len() as u64;
+        if n < LIMIT / E::BYTES {
+            E::BYTES * n
+        } else {
+            LIMIT
+        }
+    }
+
+    fn read(&self, address: u64) -> u8 {
+        if address < self.size() {
+            self.held[(address / E::BYTES) as usize].byte(address % E::BYTES)
+        } else {
+            0
+        }
+    }
+
+    fn write(&mut self, address: u64, byte: u8)
+        ensures value { owned_bytes E.spread self.new ≡ slice_set (owned_bytes E.spread self.old) address byte }
+        ensures rest { past (E.spread self.new.held.items) ≡ past (E.spread self.old.held.items) }
+    {
+        if address < self.size() {
+            let i = (address / E::BYTES) as usize;
+            self.held[i] = self.held[i].with_byte(address % E::BYTES, byte);
+        }
+    }
+}
