@@ -1,11 +1,13 @@
 // What instructions make of the qwords in registers: shifts, signed division, comparison, extension and reversal.
 #![tactic(auto)]
 
-ghost use Rattle.std.specs.Prelude.{◌≡◌, ◌<◌, if◌then◌else◌, Some, None, nat_eq};
+ghost use Rattle.std.specs.Prelude.{◌≡◌, ◌-◌, ◌^◌, if◌then◌else◌, Some, None, nat_eq};
+ghost use Rattle.std.specs.Ordering.{match_ordering};
 ghost use Rattle.numbers.specs.Laws.{DivisionStands, SignedStands};
 ghost use Rattle.numbers.specs.Values.{compared, compared_signed, divided, remaining, reversed, shifted_left, shifted_right, sign_extended, zero_extended};
 
 use memory::Width;
+use std::cmp::Ordering;
 
 pub fn shift_left(r: u64, s: u64) -> u64
     ensures { result ≡ shifted_left r s }
@@ -23,55 +25,42 @@ pub fn shift_right(r: u64, s: u64) -> u64
 pub fn divide(r: u64, s: u64) -> Option<u64>
     ensures { result ≡ (if nat_eq s 0 then None else Some (divided r s)) }
 {
-    if s == 0 {
-        return None;
-    }
-    Some(
-        r.cast_signed()
-            .wrapping_div(s.cast_signed())
-            .cast_unsigned(),
-    )
+    let (dividend, divisor) = (r.cast_signed(), s.cast_signed());
+    (s != 0).then(|| dividend.wrapping_div(divisor).cast_unsigned())
 }
 
-// The signed remainder, or nothing where s is 0.
+// The signed remainder, or nothing where s is 0. It differs from the quotient in the operation, a method of its own.
 pub fn remainder(r: u64, s: u64) -> Option<u64>
     ensures { result ≡ (if nat_eq s 0 then None else Some (remaining r s)) }
 {
-    if s == 0 {
-        return None;
+    let (dividend, divisor) = (r.cast_signed(), s.cast_signed());
+    (s != 0).then(|| dividend.wrapping_rem(divisor).cast_unsigned())
+}
+
+// -1, 0 or 1 as a qword.
+fn sign(order: Ordering) -> u64
+    ensures { result ≡ match_ordering order (2 ^ 64 - 1) 0 1 }
+{
+    match order {
+        Ordering::Less => u64::MAX,
+        Ordering::Equal => 0,
+        Ordering::Greater => 1,
     }
-    Some(
-        r.cast_signed()
-            .wrapping_rem(s.cast_signed())
-            .cast_unsigned(),
-    )
 }
 
 pub fn compare(s: u64, t: u64) -> u64
     ensures { result ≡ compared s t }
 {
-    if s < t {
-        u64::MAX
-    } else if t < s {
-        1
-    } else {
-        0
-    }
+    sign(s.cmp(&t))
 }
 
 pub fn compare_signed(s: u64, t: u64) -> u64
     ensures { result ≡ compared_signed s t }
 {
-    let (a, b) = (s.cast_signed(), t.cast_signed());
-    if a < b {
-        u64::MAX
-    } else if b < a {
-        1
-    } else {
-        0
-    }
+    sign(s.cast_signed().cmp(&t.cast_signed()))
 }
 
+// Below, an arm for each width: its type says what is cut off, where one shift by 64 less the width's bits would not.
 pub fn zero_extend(width: Width, r: u64) -> u64
     ensures { result ≡ zero_extended width r }
 {
