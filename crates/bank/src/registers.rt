@@ -7,7 +7,8 @@ use super::guard::Bank;
 use super::register::Register;
 
 impl<'a> Bank<'a> {
-    // A bank on a work area of 258 words, with the words that stand there.
+    // A bank on a work area of 258 words, with the words that stand there. Callers lend a slice, so each function that takes
+    // one in asks for its length.
     pub fn open(words: &'a mut [u64]) -> Bank<'a>
         requires { length words.old ≡ 258 }
         ensures same { words_of result ≡ words.old }

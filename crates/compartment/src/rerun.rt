@@ -11,7 +11,8 @@ use isa::End;
 use memory::Memory;
 use window::{Extent, View, Window};
 
-// How the run ends, and how many instructions were begun. The work area holds the registers, and is wiped.
+// How the run ends, and how many instructions were begun. The work area holds the registers, and is wiped. What is asked
+// of memory, window and file is asked here, where they come together.
 pub fn run<M: Memory>(
     memory: &mut M,
     window: Extent,

@@ -1,6 +1,7 @@
 // Running instructions: one instruction, and the run of a budget.
 ghost use Rattle.std.specs.Prelude.{◌≡◌, ◌≤◌};
-ghost use Rattle.isa.specs.Steps.{S, held, taking, pushing, performed, obeyed, stepped};
+ghost use Rattle.isa.specs.Reading.{decoded};
+ghost use Rattle.isa.specs.Steps.{P, S, held, taking, pushing, performed, obeyed, stepped};
 ghost use Rattle.isa.specs.Runs.{ran};
 ghost use Rattle.isa.specs.Windows.{load as loaded};
 ghost use Rattle.memory.specs.Widths.{width_bytes};
@@ -23,6 +24,13 @@ pub struct Processor<'m, 'b, 'w, M: Memory> {
 
 impl<M: Memory> Processor<'_, '_, '_, M> {
     ghost use Rattle.cpu.specs.Processors.{config_of, Reaches};
+
+    // The instruction at P.
+    pub fn read(&self) -> Instruction
+        ensures { result ≡ decoded (config_of self.now).window (held (config_of self.now) P) }
+    {
+        decode(&self.window.view(), self.bank.get(Register::P))
+    }
 
     // Stores a value at S, and then moves S up.
     fn push(&mut self, width: Width, value: u64)
@@ -100,7 +108,7 @@ impl<M: Memory> Processor<'_, '_, '_, M> {
         ensures end { result ≡ (stepped (config_of self.old)).end }
         ensures next { Reaches self.old self.new (stepped (config_of self.old)).next }
     {
-        let instruction = decode(&self.window.view(), self.bank.get(Register::P));
+        let instruction = self.read();
         self.perform(instruction)
     }
 
@@ -111,6 +119,7 @@ impl<M: Memory> Processor<'_, '_, '_, M> {
         ensures next { Reaches self.old self.new (ran budget (config_of self.old)).last }
         ensures within { result.1 ≤ budget }
     {
+        // No `?`, since an end is what the loop looks for.
         for count in 0..budget {
             if let Some(end) = self.step() {
                 return (end, count + 1);

@@ -9,14 +9,9 @@ pub trait Code {
     // The bytes of the window.
     ghost shown: { Self → List ℕ };
 
-    // What it takes for all of them to be there.
-    ghost whole: { Self → Type 0 };
-
     fn byte(&self, address: u64) -> u8
-        requires { whole self.now }
         ensures { result ≡ loaded (shown self.now) 1 address };
 
     fn load(&self, width: Width, address: u64) -> u64
-        requires { whole self.now }
         ensures { result ≡ loaded (shown self.now) (width_bytes width) address };
 }

@@ -2,7 +2,7 @@
 use super::operation::Operation;
 
 // The operands; what the instruction lacks is 0. An address and an offset are literals too.
-#[derive(Clone, Copy)]
+#[derive(Clone, Copy, Default)]
 pub struct Operands {
     pub r: u8,
     pub s: u8,

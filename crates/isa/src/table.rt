@@ -10,6 +10,7 @@ use memory::Width::{Byte, Long, Qword, Short};
 // What the table says of an opcode: an operation, the form of its operands, and a length.
 pub type Entry = (Operation, Form, u8);
 
+// As long as the instruction set has it, and never changed.
 pub(crate) static TABLE: [Entry; 94] = [
     (Operation::Halt, Form::Plain, 1),
     (Operation::Nop, Form::Plain, 1),

@@ -1,5 +1,5 @@
 // A window as it is read.
-ghost use Rattle.std.specs.Prelude.{◌≡◌, ◌+◌, ◌≤◌, ⊤};
+ghost use Rattle.std.specs.Prelude.{◌≡◌, ◌+◌, ◌≤◌};
 ghost use Rattle.isa.specs.Windows.{placed};
 ghost use Rattle.memory.specs.Widths.{width_bytes};
 ghost use Rattle.window.specs.Views.{seen, Whole};
@@ -28,6 +28,7 @@ impl<'a, M: Memory> Model for View<'a, M> {
 }
 
 impl<'a, M: Memory> View<'a, M> {
+    // That the memory has the extent whole is asked here, where the two come together, and of no access.
     pub fn new(memory: &'a M, extent: Extent) -> View<'a, M>
         requires { Whole (M.Memory.bytes memory.now) extent }
         ensures { result ≡ seen (M.Memory.bytes memory.now) extent }
@@ -38,8 +39,6 @@ impl<'a, M: Memory> View<'a, M> {
 
 impl<M: Memory> Code for View<'_, M> {
     ghost shown = { λ v. v };
-
-    ghost whole = { λ _. ⊤ };
 
     #[tactic(auto, using(crate::proofs::Seeing::byte_seen))]
     fn byte(&self, address: u64) -> u8 {
@@ -58,7 +57,7 @@ impl<M: Memory> Code for View<'_, M> {
 }
 
 // The memory address of an access at window address a. The test tells the compiler that the memory has all its bytes,
-// so that no byte is tested again.
+// so that no byte is tested again. Both kinds of window have what it asks as a fact.
 pub(crate) fn place<M: Memory>(memory: &M, extent: Extent, width: Width, a: u64) -> u64
     requires { Whole (M.Memory.bytes memory.now) extent }
     ensures is { result ≡ extent.off + placed (extent.max + 1) (width_bytes width) a }
