@@ -71,11 +71,12 @@ no_words bs h =
 -- a line cut behind its blanks and behind what follows them
 module _ (line tail word rest : List ℕ) (n m : ℕ) (blanks : n ≡ position_or_len solid line) (behind : tail ≡ drop n line)
     (word_end : m ≡ position_or_len blank tail) (after : rest ≡ drop m tail) where
+  same_words : words_of line ≡ words_of tail
+  same_words = words_behind_blanks line ∙ ap (λ (k : ℕ). words_of (drop k line)) (sym blanks) ∙ ap words_of (sym behind)
+
   pub cut_word : word ≡ take m tail → 0 < m → words_of line ≡ word ∷ words_of rest
   cut_word w p =
-      words_behind_blanks line
-      ∙ ap (λ (k : ℕ). words_of (drop k line)) (sym blanks)
-      ∙ ap words_of (sym behind)
+      same_words
       ∙ words_from_word tail (omega arith)
       ∙ ap (λ (k : ℕ). take k tail ∷ words_of (drop k tail)) (sym word_end)
       ∙ ap (λ (x : List ℕ). x ∷ words_of (drop m tail)) (sym w)

@@ -23,7 +23,8 @@ fn with_digit(value: u64, base: u64, digit: u64) -> Option<u64>
     value.checked_mul(base)?.checked_add(digit)
 }
 
-// A byte that is no digit is found also behind a value that is too large.
+// A byte that is no digit is found also behind a value that is too large. By hand, since the library's `parse` is of text
+// and takes a sign too.
 fn value_in(base: u64, digits: &[u8]) -> Result<u64, NoNumber>
     requires { base ≤ 16 }
     ensures { MatchResult result (λ n. (n < 2 ^ 64) × Digits base digits.now × (value_in_lem base digits.now ≡ n)) (λ _. Digits base digits.now → 2 ^ 64 ≤ value_in_lem base digits.now) }

@@ -23,7 +23,7 @@ pub(crate) fn number<'a>(words: &mut Scanner<'a>, operand: Operand) -> Result<u6
     Ok(n)
 }
 
-// The line ends here. (A match: no method of an option makes an error of what is there.)
+// The line ends here. (A match: `map_or` with an `Ok` outside and an `Err` inside would hide which of the two is the fault.)
 pub(crate) fn end<'a>(words: &mut Scanner<'a>) -> Result<(), Fault<'a>>
     ensures { MatchResult result (λ _. words.old ≡ []) (λ _. words.old ≢ []) }
 {

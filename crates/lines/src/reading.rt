@@ -14,7 +14,7 @@ use super::operands::{end, is_hex, number, numbers};
 use super::scanner::Scanner;
 use plan::Row;
 
-// The rest of a line that begins with `memory`.
+// The rest of a line that begins with `memory`. (By `?` in each arm: by `map` three of its goals stayed open.)
 fn read_make<'a>(words: &mut Scanner<'a>) -> Result<MemoryMake, Fault<'a>>
     ensures { MatchResult result (λ m. AsksMake words.old m) (λ _. (m : Asked) → AsksMake words.old m → ⊥) }
 {
@@ -108,6 +108,7 @@ pub fn read_command(line: &[u8]) -> Result<Option<Command<'_>>, Fault<'_>>
     ensures { Reads (words_of line.now) result }
 {
     let mut words = Scanner::new(line);
+    // No `?`, since a line with no word is no fault.
     let Some(word) = words.next() else {
         return Ok(None);
     };

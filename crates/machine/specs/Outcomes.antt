@@ -20,6 +20,26 @@ ground long (Fetch k a n) = cond (nat_lt long (a + n)) (Some refusal.Span) None
 ground long (Set k i w) = cond (nat_lt 257 i) (Some refusal.Index) None
 ground long (Get k i) = cond (nat_lt 257 i) (Some refusal.Index) None
 
+-- The row of compartment k, or the refusal of every call that names it.
+abbrev pub row_or : Option Row → Result Row Refusal
+row_or None = Err refusal.Compartment
+row_or (Some r) = Ok r
+
+abbrev pub admission : State → ℕ → Result Row Refusal
+admission s k = cond (nat_lt (length s.held) s.plan.size) (Err refusal.Memory) (row_or (row_of s.plan k))
+
+-- The row on which a call works, or the ground on which it is refused.
+abbrev pub row_unless : Row → Option Refusal → Result Row Refusal
+row_unless r (Some e) = Err e
+row_unless r None = Ok r
+
+abbrev pub grant_at : Call → Result Row Refusal → Result Row Refusal
+grant_at c (Err e) = Err e
+grant_at c (Ok r) = row_unless r (ground (r.max + 1) c)
+
+abbrev pub grant : State → Call → Result Row Refusal
+grant s c = grant_at c (admission s (named c))
+
 -- The state once the memory holds these bytes.
 abbrev pub holding : State → List ℕ → State
 holding s bs = record { held = bs; plan = s.plan; latest = s.latest }
@@ -31,24 +51,12 @@ accepted s r (Fetch k a n) = (Filled (part s.held (r.off + a) n), s)
 accepted s r (Set k i w) = (Done, holding s (put_at s.held (r.file + 8 * i) 8 w))
 accepted s r (Get k i) = (Word (value_at s.held (r.file + 8 * i) 8), s)
 
-abbrev pub by_ground : State → Row → Call → Option Refusal → Answer × State
-by_ground s r c (Some e) = (Refused (refusal_number e), s)
-by_ground s r c None = accepted s r c
-
--- The row of compartment k, or the refusal of every call that names it.
-abbrev pub row_or : Option Row → Result Row Refusal
-row_or None = Err refusal.Compartment
-row_or (Some r) = Ok r
-
-abbrev pub admission : State → ℕ → Result Row Refusal
-admission s k = cond (nat_lt (length s.held) s.plan.size) (Err refusal.Memory) (row_or (row_of s.plan k))
-
-abbrev pub by_admission : State → Call → Result Row Refusal → Answer × State
-by_admission s c (Err e) = (Refused (refusal_number e), s)
-by_admission s c (Ok r) = by_ground s r c (ground (r.max + 1) c)
+abbrev pub by_grant : State → Call → Result Row Refusal → Answer × State
+by_grant s c (Err e) = (Refused (refusal_number e), s)
+by_grant s c (Ok r) = accepted s r c
 
 abbrev pub outcome : State → Call → Answer × State
-outcome s c = by_admission s c (admission s (named c))
+outcome s c = by_grant s c (grant s c)
 
 -- The call c takes a machine from s to t and answers a.
 abbrev pub Outcome : Call → State → Answer → State → Type 0

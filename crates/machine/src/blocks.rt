@@ -1,4 +1,4 @@
-// Several bytes of a memory at once, one after the other.
+// Several bytes of a memory at once, one after the other: one function writes and one reads, so they are no twins.
 ghost use Rattle.std.specs.Prelude.{◌≡◌, ◌+◌, ◌^◌, ◌≤◌, length};
 ghost use Rattle.std.proofs.lemmas.List.Edits.{sets};
 ghost use Rattle.machine.specs.Outcomes.{part};
@@ -9,6 +9,7 @@ pub(crate) fn write_all<M: Memory>(memory: &mut M, address: u64, bytes: &[u8])
     requires { address + length bytes.now ≤ 2 ^ 64 }
     ensures { M.Memory.bytes memory.new ≡ sets (M.Memory.bytes memory.old) address bytes.now }
 {
+    // A loop, since a proof knows nothing of what `for_each` changed.
     for (i, byte) in bytes.iter().enumerate() {
         memory.write(address + i as u64, *byte);
     }
@@ -19,7 +20,7 @@ pub(crate) fn read_all<M: Memory>(memory: &M, address: u64, buffer: &mut [u8])
     requires inside { address + length buffer.old ≤ length (M.Memory.bytes memory.now) }
     ensures { buffer.new ≡ part (M.Memory.bytes memory.now) address (length buffer.old) }
 {
-    for i in 0..buffer.len() {
-        buffer[i] = memory.read(address + i as u64);
+    for (i, byte) in buffer.iter_mut().enumerate() {
+        *byte = memory.read(address + i as u64);
     }
 }

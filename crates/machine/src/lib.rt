@@ -3,8 +3,8 @@
 
 mod blocks;
 mod machine;
+mod records;
 mod refusal;
-mod runs;
 
 pub use machine::Machine;
 pub use refusal::Refusal;

@@ -1,18 +1,19 @@
 // A machine owns its memory. Each call names a compartment, and its contract says that its answer and the state at its
 // exit are the outcome of the state at its entry.
-ghost use Rattle.std.specs.Prelude.{◌≡◌, ℕ, true, List, length as count, is_err, IfOk};
+ghost use Rattle.std.specs.Prelude.{◌≡◌, ℕ, ◌+◌, ◌≤◌, true, List, length as count, is_err, IfOk};
 ghost use Rattle.machine.specs.Answers.{done_answer, filled_answer, word_answer};
 ghost use Rattle.machine.specs.Calls.{Put, Fetch, Set, Get};
-ghost use Rattle.machine.specs.Outcomes.{Outcome, admission};
+ghost use Rattle.machine.specs.Outcomes.{Outcome, admission, grant};
 ghost use Rattle.machine.specs.Inside.{Inside};
 ghost use Rattle.machine.specs.Machines.{state, opening};
 
 use super::blocks::{read_all, write_all};
+use super::records::Runs;
 use super::refusal::Refusal;
-use super::runs::Runs;
 use memory::{Memory, Width, load, store};
 use plan::{Plan, Row};
 
+// No model: a state forgets the memory itself, which `release` gives back.
 #[derive(Drop)]
 pub struct Machine<M> {
     memory: M,
@@ -53,19 +54,37 @@ impl<M: Memory> Machine<M> {
         if self.memory.size() < self.plan.size() {
             return Err(Refusal::Memory);
         }
-        match self.plan.row(k) {
-            Some(row) => Ok(row),
-            None => Err(Refusal::Compartment),
+        self.plan.row(k).ok_or(Refusal::Compartment)
+    }
+
+    // The row, where so many bytes from an address on lie in the window of compartment k.
+    fn span(&self, k: u16, address: u64, length: u64) -> Result<Row, Refusal>
+        ensures is { result ≡ grant (state M.Memory.bytes self.now) (Fetch k address length) }
+        ensures inside { IfOk result (λ row. Inside (state M.Memory.bytes self.now) k row × (address + length ≤ row.max + 1)) }
+    {
+        let row = self.admit(k)?;
+        if u128::from(address) + u128::from(length) > u128::from(row.max) + 1 {
+            return Err(Refusal::Span);
         }
+        Ok(row)
+    }
+
+    // The row, where the register file of compartment k has an entry of this index.
+    fn entry(&self, k: u16, index: u64) -> Result<Row, Refusal>
+        ensures is { result ≡ grant (state M.Memory.bytes self.now) (Get k index) }
+        ensures inside { IfOk result (λ row. Inside (state M.Memory.bytes self.now) k row × (index ≤ 257)) }
+    {
+        let row = self.admit(k)?;
+        if index > 257 {
+            return Err(Refusal::Index);
+        }
+        Ok(row)
     }
 
     pub fn put(&mut self, k: u16, address: u64, bytes: &[u8]) -> Result<(), Refusal>
         ensures { Outcome (Put k address bytes.now) (state M.Memory.bytes self.old) (done_answer result) (state M.Memory.bytes self.new) }
     {
-        let row = self.admit(k)?;
-        if u128::from(address) + bytes.len() as u128 > u128::from(row.max) + 1 {
-            return Err(Refusal::Span);
-        }
+        let row = self.span(k, address, bytes.len() as u64)?;
         write_all(&mut self.memory, row.off + address, bytes);
         Ok(())
     }
@@ -74,10 +93,7 @@ impl<M: Memory> Machine<M> {
         ensures outcome { Outcome (Fetch k address (count buffer.old)) (state M.Memory.bytes self.now) (filled_answer buffer.new result) (state M.Memory.bytes self.now) }
         ensures unfilled { is_err result ≡ true → buffer.new ≡ buffer.old }
     {
-        let row = self.admit(k)?;
-        if u128::from(address) + buffer.len() as u128 > u128::from(row.max) + 1 {
-            return Err(Refusal::Span);
-        }
+        let row = self.span(k, address, buffer.len() as u64)?;
         read_all(&self.memory, row.off + address, buffer);
         Ok(())
     }
@@ -86,20 +102,14 @@ impl<M: Memory> Machine<M> {
     pub fn spans(&self, k: u16, address: u64, length: u64) -> Result<(), Refusal>
         ensures { (bs : List ℕ) × Outcome (Fetch k address length) (state M.Memory.bytes self.now) (filled_answer bs result) (state M.Memory.bytes self.now) }
     {
-        let row = self.admit(k)?;
-        if u128::from(address) + u128::from(length) > u128::from(row.max) + 1 {
-            return Err(Refusal::Span);
-        }
+        self.span(k, address, length)?;
         Ok(())
     }
 
     pub fn set(&mut self, k: u16, index: u64, word: u64) -> Result<(), Refusal>
         ensures { Outcome (Set k index word) (state M.Memory.bytes self.old) (done_answer result) (state M.Memory.bytes self.new) }
     {
-        let row = self.admit(k)?;
-        if index > 257 {
-            return Err(Refusal::Index);
-        }
+        let row = self.entry(k, index)?;
         store(&mut self.memory, row.file + 8 * index, Width::Qword, word);
         Ok(())
     }
@@ -107,10 +117,7 @@ impl<M: Memory> Machine<M> {
     pub fn get(&self, k: u16, index: u64) -> Result<u64, Refusal>
         ensures { Outcome (Get k index) (state M.Memory.bytes self.now) (word_answer result) (state M.Memory.bytes self.now) }
     {
-        let row = self.admit(k)?;
-        if index > 257 {
-            return Err(Refusal::Index);
-        }
+        let row = self.entry(k, index)?;
         Ok(load(&self.memory, row.file + 8 * index, Width::Qword))
     }
 }

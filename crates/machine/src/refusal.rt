@@ -2,23 +2,19 @@
 ghost use Rattle.std.specs.Prelude.{◌≡◌};
 ghost use Rattle.machine.specs.Refusals.{refusal_number};
 
+// Each with the number by which it is known outside.
 #[derive(Clone, Copy, PartialEq, Eq, Debug)]
 pub enum Refusal {
-    Memory,
-    Compartment,
-    Span,
-    Index,
+    Memory = 107,
+    Compartment = 108,
+    Span = 109,
+    Index = 110,
 }
 
-impl Refusal {
-    pub fn number(self) -> u16
-        ensures { result ≡ refusal_number self }
-    {
-        match self {
-            Refusal::Memory => 107,
-            Refusal::Compartment => 108,
-            Refusal::Span => 109,
-            Refusal::Index => 110,
-        }
+impl From<Refusal> for u16 {
+    ghost from_gives = { λ refusal number. number ≡ refusal_number refusal };
+
+    fn from(refusal: Refusal) -> u16 {
+        refusal as u16
     }
 }

@@ -16,9 +16,7 @@ pub fn kept(word: u64) -> Option<u64>
         saved: 1,
     };
     let mut plan = Plan::empty();
-    let Ok(()) = lay(&[row], 4096, &mut plan) else {
-        return None;
-    };
+    lay(&[row], 4096, &mut plan).ok()?;
     let page = Page::blank();
     let mut machine = Machine::make(page, plan);
     let set = machine.set(0, 257, word);

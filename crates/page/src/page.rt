@@ -1,4 +1,4 @@
-// A memory of one page: its bytes stand in an array.
+// A memory of one page: it has 4,096 bytes and never more, so they stand in an array.
 ghost use Rattle.std.specs.Prelude.{◌≡◌, length, replicate};
 ghost use Rattle.std.proofs.Common.{rules};
 

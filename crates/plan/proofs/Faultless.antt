@@ -1,9 +1,10 @@
 -- Rows at which no ground applies keep to the plan's invariant, and the other way round.
 use Rattle.std.proofs.Common.{◌≡◌, ℕ, ◌^◌, ◌<◌, ◌≤◌, List, length, take, sym, refl, ap, ◌∙◌, subst, inl, inr, arith}
 use Rattle.std.proofs.lemmas.Bool.{cases_lt}
-use Rattle.std.proofs.lemmas.List.{get_or-take}
+use Rattle.std.proofs.lemmas.List.{get_or-take, take_all}
 use Rattle.plan.specs.Areas.{AllBounded, Bounded, Crosses, NoneCrossed, NoneShared, Shares, row_at}
-use Rattle.plan.specs.Grounds.{Applies, Overlaps}
+use Rattle.plan.specs.Grounds.{Applies, OtherRow, Overlaps, Refuses, ground_number}
+use Rattle.plan.specs.declared.ground.LayRefusal.{LayRefusal}
 use Rattle.plan.specs.declared.row.Row.{Row}
 use Rattle.plan.specs.declared.ground.Ground.{Ground}
 use Rattle.plan.specs.declared.ground.Ground.TheVariants.{Rows, Size, Short, Saved, Outside, Overlap}
@@ -21,17 +22,39 @@ bounded_row rows laid k l clean = (
   not_below _ _ (λ h. clean Outside (l, inr h)),
 )
 
--- at a bounded row that overlaps none, no ground applies
-pub none_applies : (rows : List Row) (laid i : ℕ) → i < length rows → length rows ≤ 16 → laid ≤ 2 ^ 32 → Bounded (row_at rows i) laid → ((j : ℕ) → Overlaps rows i j → ⊥) → (g : Ground) → Applies g rows laid i → ⊥
-none_applies rows laid i l few small b clean Rows (e, inl z) = omega arith
-none_applies rows laid i l few small b clean Rows (e, inr z) = omega arith
-none_applies rows laid i l few small b clean Size (e, z) = omega arith
-none_applies rows laid i l few small b clean Short (e, z) = omega arith
-none_applies rows laid i l few small b clean Saved (e, inl z) = omega arith
-none_applies rows laid i l few small b clean Saved (e, inr z) = omega arith
-none_applies rows laid i l few small b clean Outside (e, inl z) = omega arith
-none_applies rows laid i l few small b clean Outside (e, inr z) = omega arith
-none_applies rows laid i l few small b clean Overlap (e, (j, o)) = clean j o
+-- at a bounded row nothing but an overlap applies
+only_overlap : (rows : List Row) (laid i : ℕ) → i < length rows → length rows ≤ 16 → laid ≤ 2 ^ 32 → Bounded (row_at rows i) laid → (g : Ground) → Applies g rows laid i → (g ≡ Overlap) × ((j : ℕ) × Overlaps rows i j)
+only_overlap rows laid i l few small b Rows (e, inl z) = absurd (omega arith)
+only_overlap rows laid i l few small b Rows (e, inr z) = absurd (omega arith)
+only_overlap rows laid i l few small b Size (e, z) = absurd (omega arith)
+only_overlap rows laid i l few small b Short (e, z) = absurd (omega arith)
+only_overlap rows laid i l few small b Saved (e, inl z) = absurd (omega arith)
+only_overlap rows laid i l few small b Saved (e, inr z) = absurd (omega arith)
+only_overlap rows laid i l few small b Outside (e, inl z) = absurd (omega arith)
+only_overlap rows laid i l few small b Outside (e, inr z) = absurd (omega arith)
+only_overlap rows laid i l few small b Overlap (e, o) = (refl, o)
+
+-- a bounded row, and no ground applies at an earlier one
+module _ (rows : List Row) (laid i : ℕ) (l : i < length rows) (few : length rows ≤ 16) (small : laid ≤ 2 ^ 32) (b : Bounded (row_at rows i) laid)
+    (earlier : (g : Ground) (k : ℕ) → k < i → Applies g rows laid k → ⊥) where
+  pub none_applies : ((j : ℕ) → Overlaps rows i j → ⊥) → (g : Ground) → Applies g rows laid i → ⊥
+  none_applies clean g a = let o = (only_overlap rows laid i l few small b g a).1 in clean o.0 o.1
+
+  pub overlap_due : (j : ℕ) → Overlaps rows i j → (e : LayRefusal) → e.ground ≡ Overlap → e.row ≡ i → e.other ≡ j → Refuses rows laid e
+  overlap_due j o e f same other =
+      record {
+        ground_applies = subst (λ (g : Ground). Applies g rows laid e.row) (sym f) (subst (λ (k : ℕ). Applies Overlap rows laid k) (sym same) (l, (j, o)));
+        first = λ g k p a. elim p [
+          | inl h ↦ earlier g k (omega (arith, same)) a
+          | inr h ↦
+              let at : k ≡ i = h.0 ∙ same in
+              let only = only_overlap rows laid i l few small b g (subst (λ (n : ℕ). Applies g rows laid n) at a) in
+              let lower : ground_number g < ground_number Overlap = subst (λ (d : Ground). ground_number g < ground_number d) f h.1 in
+              let never : 106 < 106 = subst (λ (d : Ground). ground_number d < 106) only.0 lower in
+              omega arith
+        ];
+        other_row = subst (λ (g : Ground). OtherRow g rows e.row e.other) (sym f) (subst (λ (k : ℕ). Overlaps rows k e.other) (sym same) (subst (λ (k : ℕ). Overlaps rows i k) (sym other) o));
+      }
 
 -- a ground applies only at a row of the list, unless the list is empty
 pub applies_below : (rows : List Row) (laid i : ℕ) → 0 < length rows → (g : Ground) → Applies g rows laid i → i < length rows
@@ -41,6 +64,10 @@ applies_below rows laid i l Short (e, _) = e
 applies_below rows laid i l Saved (e, _) = e
 applies_below rows laid i l Outside (e, _) = e
 applies_below rows laid i l Overlap (e, _) = e
+
+-- an array that agrees with the rows as far as they go begins with them
+pub all_held : (rows held : List Row) (i : ℕ) → i ≡ length rows → take i held ≡ take i rows → take (length rows) held ≡ rows
+all_held rows held i e t = ap (λ n. take n held) (sym e) ∙ t ∙ ap (λ n. take n rows) e ∙ take_all (length rows) rows (omega arith)
 
 -- an array that begins with the rows has them at their places
 same_at : (held rows : List Row) → take (length rows) held ≡ rows → (k : ℕ) → k < length rows → row_at rows k ≡ row_at held k

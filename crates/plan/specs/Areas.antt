@@ -35,6 +35,10 @@ Bounded r laid =
 abbrev pub Addressable : Row → Type 0
 Addressable r = (r.off + r.max + 1 < 2 ^ 64) × (r.file + 2064 < 2 ^ 64)
 
+-- both areas end within the laid size
+abbrev pub EndsWithin : Row → ℕ → Type 0
+EndsWithin r laid = (r.off + r.max + 1 ≤ laid) × (r.file + 2064 ≤ laid)
+
 -- row k of a list; past its end a row of zeros
 abbrev pub row_at : List Row → ℕ → Row
 row_at rows k = slice_index_or rows k (record { off = 0; max = 0; file = 0; saved = 0 })

@@ -2,35 +2,28 @@
 ghost use Rattle.std.specs.Prelude.{◌≡◌};
 ghost use Rattle.plan.specs.Grounds.{ground_number};
 
-// The grounds, in the order in which they are tried.
+// The grounds, in the order in which they are tried, each with the number by which it is known outside.
 #[derive(Clone, Copy, PartialEq, Eq, Debug)]
 pub enum Ground {
-    Rows,
-    Size,
-    Short,
-    Saved,
-    Outside,
-    Overlap,
+    Rows = 101,
+    Size = 102,
+    Short = 103,
+    Saved = 104,
+    Outside = 105,
+    Overlap = 106,
 }
 
-impl Ground {
-    // The number by which the ground is known outside.
-    pub fn number(self) -> u16
-        ensures { result ≡ ground_number self }
-    {
-        match self {
-            Ground::Rows => 101,
-            Ground::Size => 102,
-            Ground::Short => 103,
-            Ground::Saved => 104,
-            Ground::Outside => 105,
-            Ground::Overlap => 106,
-        }
+impl From<Ground> for u16 {
+    ghost from_gives = { λ ground number. number ≡ ground_number ground };
+
+    fn from(ground: Ground) -> u16 {
+        ground as u16
     }
 }
 
 // The ground, the row that fails, and the other row that takes part, which may be the row itself.
-// Both are 0 where the ground is the number of rows or the laid size.
+// Both are 0 where the ground is the number of rows or the laid size: every refusal carries all three numbers, and an
+// enum with rows in some cases would have to give those zeros back by hand.
 #[derive(Clone, Copy, PartialEq, Eq, Debug)]
 pub struct LayRefusal {
     pub ground: Ground,

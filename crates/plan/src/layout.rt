@@ -1,31 +1,20 @@
 // Laying a plan: every row is checked before the plan changes.
 ghost use Rattle.std.specs.Prelude.{ℕ, ◌^◌, ◌<◌, ◌≤◌, length, MatchOption, MatchResult};
-ghost use Rattle.plan.specs.Areas.{Addressable, row_at};
-ghost use Rattle.plan.specs.Grounds.{Applies, Overlaps, Refuses};
+ghost use Rattle.plan.specs.Areas.{EndsWithin, Shares, row_at};
+ghost use Rattle.plan.specs.Grounds.{Applies, Refuses};
 ghost use Rattle.plan.specs.Lays.{Lays};
 ghost use Rattle.plan.specs.declared.ground.Ground.{Ground};
 
-use super::bytes::{crosses_itself, inside, share_byte};
 use super::ground::{Ground, LayRefusal};
+use super::placed::Placed;
 use super::plan::Plan;
 use super::row::Row;
 
-// A row that shares a byte with row i: i itself where its window and register file meet, else the first earlier one.
-fn sharer(rows: &[Row], i: usize) -> Option<usize>
-    requires place { i < length rows.now }
-    requires ends { (k : ℕ) → k ≤ i → Addressable (row_at rows.now k) }
-    ensures { MatchOption result ((j : ℕ) → Overlaps rows.now i j → ⊥) (λ j. Overlaps rows.now i j) }
+// The first earlier row within the laid size that shares a byte with this one.
+fn sharer(earlier: &[Row], row: Placed, laid: u64) -> Option<usize>
+    ensures { MatchOption result ((j : ℕ) → j < length earlier.now → EndsWithin (row_at earlier.now j) laid → Shares row.row (row_at earlier.now j) → ⊥) (λ j. (j < length earlier.now) × Shares row.row (row_at earlier.now j)) }
 {
-    let r = rows[i];
-    if crosses_itself(r) {
-        return Some(i);
-    }
-    for j in 0..i {
-        if share_byte(r, rows[j]) {
-            return Some(j);
-        }
-    }
-    None
+    earlier.iter().position(|q| Placed::within(*q, laid).is_some_and(|q| row.share_byte(q)))
 }
 
 // The first ground against row i, where none applies at an earlier row.
@@ -44,10 +33,12 @@ fn check_row(rows: &[Row], i: usize, laid: u64) -> Result<(), LayRefusal>
     if r.saved < 1 || r.saved > 256 {
         return Err(LayRefusal::new(Ground::Saved, row, row));
     }
-    if !inside(r, laid) {
-        return Err(LayRefusal::new(Ground::Outside, row, row));
+    let placed = Placed::within(r, laid).ok_or(LayRefusal::new(Ground::Outside, row, row))?;
+    if placed.crosses_itself() {
+        return Err(LayRefusal::new(Ground::Overlap, row, row));
     }
-    match sharer(rows, i) {
+    // A match, since `map_or` with an `Ok` outside and an `Err` inside would hide which of the two is the refusal.
+    match sharer(&rows[..i], placed, laid) {
         Some(j) => Err(LayRefusal::new(Ground::Overlap, row, j as u16)),
         None => Ok(()),
     }
@@ -57,17 +48,18 @@ fn check_row(rows: &[Row], i: usize, laid: u64) -> Result<(), LayRefusal>
 pub fn lay(rows: &[Row], laid_size: u64, plan: &mut Plan) -> Result<(), LayRefusal>
     ensures { Lays rows.now laid_size plan.old result plan.new }
 {
-    if rows.len() < 1 || rows.len() > 16 {
+    if rows.is_empty() || rows.len() > 16 {
         return Err(LayRefusal::new(Ground::Rows, 0, 0));
     }
     if laid_size > 0x1_0000_0000 {
         return Err(LayRefusal::new(Ground::Size, 0, 0));
     }
-    let mut held = [rows[0]; 16];
-    for (i, r) in rows.iter().enumerate() {
+    // By index, since a refusal names its row and looks at the rows before it.
+    for i in 0..rows.len() {
         check_row(rows, i, laid_size)?;
-        held[i] = *r;
     }
+    let mut held = [rows[0]; 16];
+    held[..rows.len()].copy_from_slice(rows);
     *plan = Plan::of(held, rows.len() as u16, laid_size);
     Ok(())
 }

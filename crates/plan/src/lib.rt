@@ -1,10 +1,10 @@
 // Plans: which bytes of one memory belong to which compartment.
 #![tactic(auto)]
 
-mod bytes;
 mod ground;
 mod laws;
 mod layout;
+mod placed;
 mod plan;
 mod row;
 mod span;

@@ -6,7 +6,8 @@ use super::row::Row;
 
 mod parts;
 
-// The first `count` rows are the plan's; what stands behind them says nothing.
+// The first `count` rows are the plan's; what stands behind them says nothing. An array, so that a plan is a plain value
+// and needs no heap.
 #[derive(Clone, Copy)]
 pub struct Plan {
     rows: [Row; 16],

@@ -47,13 +47,13 @@ impl fmt::Display for Answer {
                 write!(
                     f,
                     "refused {} row {} other {}",
-                    e.ground.number(),
+                    u16::from(e.ground),
                     e.row,
                     e.other
                 )
             }
             Answer::Made => write!(f, "made"),
-            Answer::Refused(e) => write!(f, "refused {}", e.number()),
+            Answer::Refused(e) => write!(f, "refused {}", u16::from(*e)),
             Answer::Fetched(bytes) => write!(f, "{}", Hex(bytes.as_slice())),
             Answer::Word(w) => write!(f, "{w}"),
             Answer::Released => write!(f, "released"),

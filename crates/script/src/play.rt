@@ -43,6 +43,7 @@ pub fn perform_line<'a>(
 ) -> Result<Option<Answer>, Stop<'a>>
     ensures { Plays (words_of line.now) session.old result session.new }
 {
+    // No `?` for the option, since a line that is passed over is no fault.
     let Some(command) = read_command(line)? else {
         return Ok(None);
     };
@@ -84,6 +85,7 @@ pub fn play_script(rt: &HostRuntime) -> io::Result<()> {
             break;
         }
         let text = without_ending(line.as_slice());
+        // A match, since each of the three goes on in its own way.
         match perform_line(&mut session, heap, text) {
             Ok(Some(answer)) => output.write_all(answer.written(heap, text)?.as_slice())?,
             Ok(None) => {}

@@ -75,6 +75,7 @@ impl Stage {
         }
     }
 
+    // Twice, since no one function lends both to look at and to change.
     fn machine(&self) -> Result<&AnyMachine, Trouble>
         ensures { MatchResult result (λ m. self.now ≡ stage.Made m.now) (λ e. needs_machine self.now ≡ Some e) }
     {
@@ -188,7 +189,8 @@ impl Session {
         Ok(done.map_or_else(Answer::Refused, |()| Answer::Accepted))
     }
 
-    // Asked first whether it would be refused, so that no buffer is made for one that would.
+    // Asked first whether it would be refused, so that no buffer is made for one that would; a refusal is an answer here
+    // and no error, so there is no `?`.
     fn fetch(&self, heap: Global, k: u16, address: u64, size: u64) -> Result<Answer, Trouble>
         ensures { Performed (asked.Fetch k address size) self.now result self.now }
     {

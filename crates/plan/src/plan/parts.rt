@@ -12,14 +12,8 @@ impl Plan {
         ensures rows { rows_of result ≡ [] }
         ensures size { result.size ≡ 0 }
     {
-        let none = Row {
-            off: 0,
-            max: 0,
-            file: 0,
-            saved: 0,
-        };
         Plan {
-            rows: [none; 16],
+            rows: [Row::default(); 16],
             count: 0,
             size: 0,
         }
@@ -29,11 +23,7 @@ impl Plan {
     pub fn row(&self, k: u16) -> Option<Row>
         ensures { result ≡ slice_get (rows_of self.now) k }
     {
-        if k < self.count {
-            Some(self.rows[k as usize])
-        } else {
-            None
-        }
+        self.rows[..self.count as usize].get(k as usize).copied()
     }
 
     // The laid size.

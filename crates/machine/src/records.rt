@@ -1,4 +1,5 @@
-// The record of each compartment's latest run: its error code and its count.
+// The record of each compartment's latest run: its error code and its count, the plain numbers that a caller asks for. An
+// array, so that a machine needs no heap.
 ghost use Rattle.std.specs.Prelude.{◌≡◌, replicate, None as Empty};
 
 #[derive(Drop)]
