@@ -4,14 +4,15 @@ use Rattle.std.specs.Borrow.{Bor}
 use Rattle.plan.specs.declared.row.Row.{Row}
 use Rattle.lines.specs.Hexadecimal.{HexOperand}
 use Rattle.lines.specs.Keywords.{command_text, make_text}
-use Rattle.lines.specs.Operands.{Filled, Gives}
+use Rattle.lines.specs.Operands.{Filled, FilledOr, Gives}
 use Rattle.lines.specs.declared.keyword.CommandWord.{CommandWord}
 use Rattle.lines.specs.declared.keyword.CommandWord.TheVariants as first
 use Rattle.lines.specs.declared.keyword.MakeWord.{MakeWord}
 use Rattle.lines.specs.declared.keyword.MakeWord.TheVariants as second
 use Rattle.lines.specs.declared.fault.Fault.{Fault}
+use Rattle.lines.specs.declared.operand.Operand.{Operand}
 use Rattle.lines.specs.declared.operand.Operand.TheVariants as operand
-use Rattle.lines.specs.declared.operand.Operand.TheVariants.{N, M, Off, Max, File, Saved, Size, K, Address, Index, Length}
+use Rattle.lines.specs.declared.operand.Operand.TheVariants.{N, M, Off, Max, File, Saved, Size, K, Address, Index, Length, Budget, Work}
 use Rattle.lines.specs.declared.command.MemoryMake.{MemoryMake}
 use Rattle.lines.specs.declared.command.MemoryMake.TheVariants as make
 use Rattle.lines.specs.declared.command.Command.{Command}
@@ -30,10 +31,10 @@ AsksMake words m = (k : MakeWord) × (ws : List (List ℕ)) × (words ≡ make_t
 abbrev pub AsksRow : List (List ℕ) → Row → Type 0
 AsksRow ws r = Filled (Off ∷ Max ∷ File ∷ Saved ∷ []) ws (r.off ∷ r.max ∷ r.file ∷ r.saved ∷ [])
 
--- The operands of a put: the compartment, the address and the bytes in hexadecimal, which may be left out.
-abbrev pub PutOperands : List (List ℕ) → ℕ → ℕ → List ℕ → Type 0
-PutOperands words k a hex =
-    (v w : List ℕ) × (ws : List (List ℕ)) × (words ≡ v ∷ w ∷ ws) × Gives K v k × Gives Address w a × HexOperand ws hex
+-- The operands of a call whose last one may be left out: the compartment, one number, and the words behind these two.
+abbrev pub CallOperands : Operand → (List (List ℕ) → Type 0) → List (List ℕ) → ℕ → ℕ → Type 0
+CallOperands o Last words k n =
+    (v w : List ℕ) × (ws : List (List ℕ)) × (words ≡ v ∷ w ∷ ws) × Gives K v k × Gives o w n × Last ws
 
 -- The words behind the name of a command.
 abbrev pub Behind : CommandWord → List (List ℕ) → Command → Type 0
@@ -41,10 +42,11 @@ Behind first.Memory ws c = (m : MemoryMake) × (c ≡ command.Memory m) × AsksM
 Behind first.Row ws c = (r : Row) × (c ≡ command.Row r) × AsksRow ws r
 Behind first.Lay ws c = (n : ℕ) × (c ≡ command.Lay n) × Filled (Size ∷ []) ws (n ∷ [])
 Behind first.Make ws c = (c ≡ command.Make) × (ws ≡ [])
-Behind first.Put ws c = (k a : ℕ) × (hex : Bor (List ℕ)) × (c ≡ command.Put k a hex) × PutOperands ws k a hex.now
+Behind first.Put ws c = (k a : ℕ) × (hex : Bor (List ℕ)) × (c ≡ command.Put k a hex) × CallOperands Address (λ vs. HexOperand vs hex.now) ws k a
 Behind first.Set ws c = (k i w : ℕ) × (c ≡ command.Set k i w) × Filled (K ∷ Index ∷ operand.Word ∷ []) ws (k ∷ i ∷ w ∷ [])
 Behind first.Fetch ws c = (k a n : ℕ) × (c ≡ command.Fetch k a n) × Filled (K ∷ Address ∷ Length ∷ []) ws (k ∷ a ∷ n ∷ [])
 Behind first.Get ws c = (k i : ℕ) × (c ≡ command.Get k i) × Filled (K ∷ Index ∷ []) ws (k ∷ i ∷ [])
+Behind first.Run ws c = (k b n : ℕ) × (c ≡ command.Run k b n) × CallOperands Budget (λ vs. FilledOr Work 258 vs n) ws k b
 Behind first.Release ws c = (c ≡ command.Release) × (ws ≡ [])
 
 -- What reading the words behind the name of a command answers.

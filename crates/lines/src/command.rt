@@ -9,7 +9,8 @@ pub enum MemoryMake {
     Spliced(u64, u64),
 }
 
-// Calls name a compartment first. The bytes of a put are still written in hexadecimal.
+// Calls name a compartment first. The bytes of a put are still written in hexadecimal. A run has its budget and the
+// number of qwords of its work area.
 #[derive(Clone, Copy)]
 pub enum Command<'a> {
     Memory(MemoryMake),
@@ -20,5 +21,6 @@ pub enum Command<'a> {
     Set(u16, u64, u64),
     Fetch(u16, u64, u64),
     Get(u16, u64),
+    Run(u16, u64, u64),
     Release,
 }

@@ -14,6 +14,7 @@ pub(crate) enum CommandWord {
     Set,
     Fetch,
     Get,
+    Run,
     Release,
 }
 
@@ -32,6 +33,7 @@ impl<'a> TryFrom<&'a [u8]> for CommandWord {
             b"set" => Ok(CommandWord::Set),
             b"fetch" => Ok(CommandWord::Fetch),
             b"get" => Ok(CommandWord::Get),
+            b"run" => Ok(CommandWord::Run),
             b"release" => Ok(CommandWord::Release),
             _ => Err(Fault::NoSuchCommand(word)),
         }

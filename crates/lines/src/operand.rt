@@ -16,6 +16,8 @@ pub enum Operand {
     Index,
     Word,
     Length,
+    Budget,
+    Work,
 }
 
 impl Operand {
@@ -36,6 +38,8 @@ impl Operand {
             Operand::Index => "INDEX",
             Operand::Word => "WORD",
             Operand::Length => "LENGTH",
+            Operand::Budget => "BUDGET",
+            Operand::Work => "WORK",
         }
     }
 
@@ -54,7 +58,9 @@ impl Operand {
             | Operand::Address
             | Operand::Index
             | Operand::Word
-            | Operand::Length => u64::MAX,
+            | Operand::Length
+            | Operand::Budget
+            | Operand::Work => u64::MAX,
         }
     }
 }

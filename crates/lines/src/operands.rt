@@ -1,18 +1,17 @@
 // Reading the operands that stand behind the fixed words of a line.
 ghost use Rattle.std.specs.Prelude.{◌≡◌, ℕ, List, [], ◌∷◌, Decides, MatchResult, ◌≢◌};
 ghost use Rattle.lines.specs.Hexadecimal.{Hex};
-ghost use Rattle.lines.specs.Operands.{Filled, Gives};
+ghost use Rattle.lines.specs.Operands.{Filled, FilledOr, Gives};
 
 use super::digits::{NoNumber, digit_of, numeral};
 use super::fault::Fault;
 use super::operand::Operand;
 use super::scanner::Scanner;
 
-// The next word as the value of an operand.
-pub(crate) fn number<'a>(words: &mut Scanner<'a>, operand: Operand) -> Result<u64, Fault<'a>>
-    ensures { MatchResult result (λ n. (w : List ℕ) × (words.old ≡ w ∷ words.new) × Gives operand w n) (λ _. (w : List ℕ) (ws : List (List ℕ)) (n : ℕ) → words.old ≡ w ∷ ws → Gives operand w n → ⊥) }
+// A word as the value of an operand.
+fn value_of(word: &[u8], operand: Operand) -> Result<u64, Fault<'_>>
+    ensures { MatchResult result (λ n. Gives operand word.now n) (λ _. (n : ℕ) → Gives operand word.now n → ⊥) }
 {
-    let word = words.next().ok_or(Fault::Missing(operand))?;
     let n = numeral(word).map_err(|e| match e {
         NoNumber::NotANumber => Fault::NotANumber(operand, word),
         NoNumber::TooLarge => Fault::TooLarge(operand, word),
@@ -23,6 +22,14 @@ pub(crate) fn number<'a>(words: &mut Scanner<'a>, operand: Operand) -> Result<u6
     Ok(n)
 }
 
+// The next word as the value of an operand.
+pub(crate) fn number<'a>(words: &mut Scanner<'a>, operand: Operand) -> Result<u64, Fault<'a>>
+    ensures { MatchResult result (λ n. (w : List ℕ) × (words.old ≡ w ∷ words.new) × Gives operand w n) (λ _. (w : List ℕ) (ws : List (List ℕ)) (n : ℕ) → words.old ≡ w ∷ ws → Gives operand w n → ⊥) }
+{
+    let word = words.next().ok_or(Fault::Missing(operand))?;
+    value_of(word, operand)
+}
+
 // The line ends here. (A match: `map_or` with an `Ok` outside and an `Err` inside would hide which of the two is the fault.)
 pub(crate) fn end<'a>(words: &mut Scanner<'a>) -> Result<(), Fault<'a>>
     ensures { MatchResult result (λ _. words.old ≡ []) (λ _. words.old ≢ []) }
@@ -31,6 +38,22 @@ pub(crate) fn end<'a>(words: &mut Scanner<'a>) -> Result<(), Fault<'a>>
         Some(word) => Err(Fault::WordTooMany(word)),
         None => Ok(()),
     }
+}
+
+// The rest of the line as the value of an operand that may be left out, and no more.
+pub(crate) fn number_or<'a>(
+    words: &mut Scanner<'a>,
+    operand: Operand,
+    otherwise: u64,
+) -> Result<u64, Fault<'a>>
+    ensures { MatchResult result (λ n. FilledOr operand otherwise words.old n) (λ _. (n : ℕ) → FilledOr operand otherwise words.old n → ⊥) }
+{
+    let Some(word) = words.next() else {
+        return Ok(otherwise);
+    };
+    let value = value_of(word, operand)?;
+    end(words)?;
+    Ok(value)
 }
 
 // The rest of the line as the values of these operands, and no more.

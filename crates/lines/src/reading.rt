@@ -10,9 +10,12 @@ use super::command::{Command, MemoryMake};
 use super::fault::Fault;
 use super::keyword::{CommandWord, MakeWord};
 use super::operand::Operand;
-use super::operands::{end, is_hex, number, numbers};
+use super::operands::{end, is_hex, number, number_or, numbers};
 use super::scanner::Scanner;
 use plan::Row;
+
+// The qwords of a work area, where a line does not say how many.
+const WORK: u64 = 258;
 
 // The rest of a line that begins with `memory`. (By `?` in each arm: by `map` three of its goals stayed open.)
 fn read_make<'a>(words: &mut Scanner<'a>) -> Result<MemoryMake, Fault<'a>>
@@ -64,6 +67,15 @@ fn read_put<'a>(words: &mut Scanner<'a>) -> Result<Command<'a>, Fault<'a>>
     Ok(Command::Put(k, address, hex))
 }
 
+fn read_run<'a>(words: &mut Scanner<'a>) -> Result<Command<'a>, Fault<'a>>
+    ensures { ReadsRest first.Run words.old result }
+{
+    let k = number(words, Operand::K)? as u16;
+    let budget = number(words, Operand::Budget)?;
+    let work = number_or(words, Operand::Work, WORK)?;
+    Ok(Command::Run(k, budget, work))
+}
+
 // The rest of a line that begins with this word. (By `?` in each arm: the check covers no closure whose result names a
 // lifetime that its argument does not, as one for `map` would be.)
 fn read_rest<'a>(words: &mut Scanner<'a>, word: CommandWord) -> Result<Command<'a>, Fault<'a>>
@@ -96,6 +108,7 @@ fn read_rest<'a>(words: &mut Scanner<'a>, word: CommandWord) -> Result<Command<'
             let [k, index] = numbers(words, [Operand::K, Operand::Index])?;
             Ok(Command::Get(k as u16, index))
         }
+        CommandWord::Run => read_run(words),
         CommandWord::Release => {
             end(words)?;
             Ok(Command::Release)

@@ -1,13 +1,14 @@
 -- What a call answers and the state that it leads to, by the row of the compartment that it names alone.
-use Rattle.std.specs.Prelude.{◌≡◌, ℕ, ◌+◌, ◌*◌, cond, List, length, take, drop, Some, None, Ok, Err, Option, Result, nat_lt}
+use Rattle.std.specs.Prelude.{◌≡◌, ℕ, ◌+◌, ◌*◌, cond, List, length, take, drop, Some, None, Ok, Err, Option, Result, ◌==◌, nat_lt, slice_set}
 use Rattle.std.proofs.lemmas.List.Edits.{sets}
 use Rattle.memory.specs.Bytes.{value_at, put_at}
+use Rattle.isa.specs.Compartments.{Ended, compartment_ran}
 use Rattle.plan.specs.declared.row.Row.{Row}
 use Rattle.machine.specs.Refusals.{refusal_number}
 use Rattle.machine.specs.declared.refusal.Refusal.{Refusal}
 use Rattle.machine.specs.declared.refusal.Refusal.TheVariants as refusal
 use Rattle.machine.specs.States.{State, row_of}
-use Rattle.machine.specs.Calls.{Call, Put, Fetch, Set, Get, Answer, Refused, Done, Filled, Word, named}
+use Rattle.machine.specs.Calls.{Call, Put, Fetch, Set, Get, Run, Answer, Refused, Done, Filled, Word, Ended as EndedWith, named}
 
 -- The n bytes from an address on.
 abbrev pub part : List ℕ → ℕ → ℕ → List ℕ
@@ -19,6 +20,8 @@ ground long (Put k a bs) = cond (nat_lt long (a + length bs)) (Some refusal.Span
 ground long (Fetch k a n) = cond (nat_lt long (a + n)) (Some refusal.Span) None
 ground long (Set k i w) = cond (nat_lt 257 i) (Some refusal.Index) None
 ground long (Get k i) = cond (nat_lt 257 i) (Some refusal.Index) None
+ground long (Run k budget work) =
+    cond (nat_lt 1000000 budget) (Some refusal.Budget) (cond (work == 258) None (Some refusal.Work))
 
 -- The row of compartment k, or the refusal of every call that names it.
 abbrev pub row_or : Option Row → Result Row Refusal
@@ -44,12 +47,26 @@ grant s c = grant_at c (admission s (named c))
 abbrev pub holding : State → List ℕ → State
 holding s bs = record { held = bs; plan = s.plan; latest = s.latest }
 
+-- The run of the row's compartment, from its own bytes alone.
+abbrev pub run_of : State → Row → ℕ → Ended
+run_of s r budget = compartment_ran (part s.held r.off (r.max + 1)) (part s.held r.file 2064) r.saved budget
+
+-- The state once compartment k's run has ended so: its window and its register file, and its record.
+abbrev pub recording : State → Row → ℕ → Ended → State
+recording s r k e = record {
+  held = sets (sets s.held r.off e.window) r.file e.file;
+  plan = s.plan;
+  latest = slice_set s.latest k (Some (e.code, e.count));
+}
+
 -- An accepted call: `sets` puts bytes in the places from an address on, one after the other.
 abbrev pub accepted : State → Row → Call → Answer × State
 accepted s r (Put k a bs) = (Done, holding s (sets s.held (r.off + a) bs))
 accepted s r (Fetch k a n) = (Filled (part s.held (r.off + a) n), s)
 accepted s r (Set k i w) = (Done, holding s (put_at s.held (r.file + 8 * i) 8 w))
 accepted s r (Get k i) = (Word (value_at s.held (r.file + 8 * i) 8), s)
+accepted s r (Run k budget work) =
+    (EndedWith (run_of s r budget).code (run_of s r budget).count, recording s r k (run_of s r budget))
 
 abbrev pub by_grant : State → Call → Result Row Refusal → Answer × State
 by_grant s c (Err e) = (Refused (refusal_number e), s)

@@ -2,9 +2,11 @@
 #![tactic(auto)]
 
 mod blocks;
+mod ended;
 mod machine;
 mod records;
 mod refusal;
 
+pub use ended::RunEnd;
 pub use machine::Machine;
 pub use refusal::Refusal;

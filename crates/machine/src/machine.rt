@@ -1,17 +1,19 @@
 // A machine owns its memory. Each call names a compartment, and its contract says that its answer and the state at its
 // exit are the outcome of the state at its entry.
-ghost use Rattle.std.specs.Prelude.{◌≡◌, ℕ, ◌+◌, ◌≤◌, true, List, length as count, is_err, IfOk};
-ghost use Rattle.machine.specs.Answers.{done_answer, filled_answer, word_answer};
-ghost use Rattle.machine.specs.Calls.{Put, Fetch, Set, Get};
+ghost use Rattle.std.specs.Prelude.{◌≡◌, ℕ, ◌+◌, ◌≤◌, true, List, length as size, replicate, is_ok, is_err, IfOk};
+ghost use Rattle.machine.specs.Answers.{done_answer, ended_answer, filled_answer, word_answer};
+ghost use Rattle.machine.specs.Calls.{Put, Fetch, Set, Get, Run};
 ghost use Rattle.machine.specs.Outcomes.{Outcome, admission, grant};
 ghost use Rattle.machine.specs.Inside.{Inside};
 ghost use Rattle.machine.specs.Machines.{state, opening};
 
 use super::blocks::{read_all, write_all};
+use super::ended::RunEnd;
 use super::records::Runs;
 use super::refusal::Refusal;
 use memory::{Memory, Width, load, store};
 use plan::{Plan, Row};
+use window::Extent;
 
 // No model: a state forgets the memory itself, which `release` gives back.
 #[derive(Drop)]
@@ -90,7 +92,7 @@ impl<M: Memory> Machine<M> {
     }
 
     pub fn fetch(&self, k: u16, address: u64, buffer: &mut [u8]) -> Result<(), Refusal>
-        ensures outcome { Outcome (Fetch k address (count buffer.old)) (state M.Memory.bytes self.now) (filled_answer buffer.new result) (state M.Memory.bytes self.now) }
+        ensures outcome { Outcome (Fetch k address (size buffer.old)) (state M.Memory.bytes self.now) (filled_answer buffer.new result) (state M.Memory.bytes self.now) }
         ensures unfilled { is_err result ≡ true → buffer.new ≡ buffer.old }
     {
         let row = self.span(k, address, buffer.len() as u64)?;
@@ -119,5 +121,38 @@ impl<M: Memory> Machine<M> {
     {
         let row = self.entry(k, index)?;
         Ok(load(&self.memory, row.file + 8 * index, Width::Qword))
+    }
+
+    // Runs compartment k. The work area holds the registers during the run, and is all zero after it.
+    pub fn run(&mut self, k: u16, budget: u64, work: &mut [u64]) -> Result<RunEnd, Refusal>
+        ensures outcome { Outcome (Run k budget (size work.old)) (state M.Memory.bytes self.old) (ended_answer result) (state M.Memory.bytes self.new) }
+        ensures wiped { is_ok result ≡ true → work.new ≡ replicate 258 0 }
+        ensures kept { is_err result ≡ true → work.new ≡ work.old }
+    {
+        let row = self.admit(k)?;
+        if budget > 1_000_000 {
+            return Err(Refusal::Budget);
+        }
+        if work.len() != 258 {
+            return Err(Refusal::Work);
+        }
+        let window = Extent {
+            off: row.off,
+            max: row.max,
+        };
+        let file = Extent {
+            off: row.file,
+            max: 2063,
+        };
+        let (end, count) = compartment::run(
+            &mut self.memory,
+            window,
+            file,
+            row.saved,
+            budget,
+            work,
+        );
+        self.runs.record(k, u8::from(end), count);
+        Ok(RunEnd { end, count })
     }
 }

@@ -1,6 +1,6 @@
 // The record of each compartment's latest run: its error code and its count, the plain numbers that a caller asks for. An
 // array, so that a machine needs no heap.
-ghost use Rattle.std.specs.Prelude.{◌≡◌, replicate, None as Empty};
+ghost use Rattle.std.specs.Prelude.{◌≡◌, ◌<◌, replicate, Some as Kept, None as Empty, slice_set};
 
 #[derive(Drop)]
 pub struct Runs {
@@ -12,5 +12,13 @@ impl Runs {
         ensures { result.latest ≡ replicate 16 Empty }
     {
         Runs { latest: [None; 16] }
+    }
+
+    // The latest run of compartment k; the others' stay.
+    pub(crate) fn record(&mut self, k: u16, code: u8, count: u64)
+        requires { k < 16 }
+        ensures { self.new.latest ≡ slice_set self.old.latest k (Kept (code, count)) }
+    {
+        self.latest[k as usize] = Some((code, count));
     }
 }

@@ -9,6 +9,8 @@ pub enum Refusal {
     Compartment = 108,
     Span = 109,
     Index = 110,
+    Budget = 111,
+    Work = 112,
 }
 
 impl From<Refusal> for u16 {

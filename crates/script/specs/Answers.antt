@@ -1,9 +1,10 @@
 -- The text of an answer, and the line of output that a line of a script gives.
 use Rattle.std.specs.Prelude.{ℕ, ◌+◌, ◌/◌, ◌%◌, cond, List, [], ◌∷◌, ◌++◌, vec_items, codes, decimal, nat_lt}
 use Rattle.plan.specs.Grounds.{ground_number}
+use Rattle.isa.specs.Ends.{end_code}
 use Rattle.machine.specs.Refusals.{refusal_number}
 use Rattle.script.specs.declared.answer.Answer.{Answer}
-use Rattle.script.specs.declared.answer.Answer.TheVariants.{Size, Row, Accepted, LayRefused, Made, Refused, Fetched, Word, Released}
+use Rattle.script.specs.declared.answer.Answer.TheVariants.{Size, Row, Accepted, LayRefused, Made, Refused, Fetched, Word, Ended, Released}
 
 -- A digit below 16, and bytes as pairs of digits, both in lower case.
 abbrev pub hex_digit_lem : ℕ → ℕ
@@ -23,6 +24,7 @@ answer_text Made = codes "made"
 answer_text (Refused e) = codes "refused " ++ decimal (refusal_number e)
 answer_text (Fetched v) = hex_text (vec_items v)
 answer_text (Word w) = decimal w
+answer_text (Ended e) = codes "code " ++ (decimal (end_code e.end) ++ (codes " count " ++ decimal e.count))
 answer_text Released = codes "released"
 
 -- The line as written, a colon, a blank, the answer, a line feed.

@@ -3,11 +3,12 @@ use Rattle.std.specs.Prelude.{◌≡◌, ℕ, ◌⊎◌, List, [], ◌∷◌, �
 use Rattle.std.specs.declared.alloc.Global.{Global}
 use Rattle.lines.specs.Hexadecimal.{hex_bytes}
 use Rattle.lines.specs.declared.command.Command.{Command}
-use Rattle.lines.specs.declared.command.Command.TheVariants.{Memory, Row, Lay, Make, Put, Set, Fetch, Get, Release}
-use Rattle.machine.specs.Answers.{done_answer, filled_answer, word_answer}
+use Rattle.lines.specs.declared.command.Command.TheVariants.{Memory, Row, Lay, Make, Put, Set, Fetch, Get, Run, Release}
+use Rattle.machine.specs.Answers.{done_answer, ended_answer, filled_answer, word_answer}
 use Rattle.machine.specs.Calls as calls
 use Rattle.machine.specs.Machines.{opening}
 use Rattle.machine.specs.Outcomes.{Outcome}
+use Rattle.machine.specs.declared.ended.RunEnd.{RunEnd}
 use Rattle.machine.specs.declared.refusal.Refusal.{Refusal}
 use Rattle.plan.specs.Lays.{Lays}
 use Rattle.plan.specs.Plans.{rows_of}
@@ -58,6 +59,10 @@ FetchTells (Err e) bs a = a ≡ answer.Refused e
 abbrev pub word_text : Result ℕ Refusal → Answer
 word_text (Ok w) = answer.Word w
 word_text (Err e) = answer.Refused e
+
+abbrev pub ended_text : Result RunEnd Refusal → Answer
+ended_text (Ok e) = answer.Ended e
+ended_text (Err e) = answer.Refused e
 
 -- A command, the session before, the answer, the session after.
 abbrev pub Performs : Command → Session → Answer → Session → Type 0
@@ -111,6 +116,13 @@ Performs (Get k i) s a t =
     × Outcome (calls.Get k i) (machine_state m) (word_answer r) (machine_state m)
     × (a ≡ word_text r)
     × Same s t
+Performs (Run k budget work) s a t =
+    (m n : AnyMachine) × (r : Result RunEnd Refusal)
+    × (s.stage ≡ stage.Made m)
+    × (t.stage ≡ stage.Made n)
+    × Outcome (calls.Run k budget work) (machine_state m) (ended_answer r) (machine_state n)
+    × (a ≡ ended_text r)
+    × Beside s t
 Performs Release s a t =
     (m : AnyMachine) × (store : Store)
     × (s.stage ≡ stage.Made m)
@@ -151,6 +163,7 @@ trouble_of (Put k b hex) g = needs_machine g
 trouble_of (Set k i w) g = needs_machine g
 trouble_of (Fetch k b n) g = needs_machine g
 trouble_of (Get k i) g = needs_machine g
+trouble_of (Run k budget work) g = needs_machine g
 trouble_of Release g = needs_machine g
 
 -- Only these make something that may find no room: a memory, a row, and the bytes of a put and a fetch.
@@ -163,6 +176,7 @@ NeedsRoom (Put k b hex) = Unit {0}
 NeedsRoom (Set k i w) = ⊥
 NeedsRoom (Fetch k b n) = Unit {0}
 NeedsRoom (Get k i) = ⊥
+NeedsRoom (Run k budget work) = ⊥
 NeedsRoom Release = ⊥
 
 -- Why a command is not performed at a stage.

@@ -2,7 +2,7 @@
 ghost use Rattle.std.specs.Prelude.{◌≡◌, IfOk, Some};
 ghost use Rattle.script.specs.Answers.{answer_text, hex_text, output_text};
 
-use machine::Refusal;
+use machine::{Refusal, RunEnd};
 use plan::LayRefusal;
 use std::alloc::{AllocError, Global};
 use std::fmt;
@@ -17,6 +17,7 @@ pub enum Answer {
     Refused(Refusal),
     Fetched(Vec<u8>),
     Word(u64),
+    Ended(RunEnd),
     Released,
 }
 
@@ -56,6 +57,7 @@ impl fmt::Display for Answer {
             Answer::Refused(e) => write!(f, "refused {}", u16::from(*e)),
             Answer::Fetched(bytes) => write!(f, "{}", Hex(bytes.as_slice())),
             Answer::Word(w) => write!(f, "{w}"),
+            Answer::Ended(e) => write!(f, "code {} count {}", u8::from(e.end), e.count),
             Answer::Released => write!(f, "released"),
         }
     }

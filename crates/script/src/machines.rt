@@ -1,13 +1,13 @@
 // A machine over the memory of a script, of whichever make it is.
 ghost use Rattle.std.specs.Prelude.{◌≡◌, ℕ, true, List, length, is_err};
-ghost use Rattle.machine.specs.Answers.{done_answer, filled_answer, word_answer};
-ghost use Rattle.machine.specs.Calls.{Put, Fetch, Set, Get};
+ghost use Rattle.machine.specs.Answers.{done_answer, ended_answer, filled_answer, word_answer};
+ghost use Rattle.machine.specs.Calls.{Put, Fetch, Set, Get, Run};
 ghost use Rattle.machine.specs.Machines.{opening};
 ghost use Rattle.machine.specs.Outcomes.{Outcome};
 ghost use Rattle.script.specs.Stores.{store_bytes, machine_state};
 
 use super::store::{Store, for_make, map_make};
-use machine::{Machine, Refusal};
+use machine::{Machine, Refusal, RunEnd};
 use memory::{Flat, Spliced, Words};
 use plan::Plan;
 
@@ -61,5 +61,23 @@ impl AnyMachine {
         ensures { Outcome (Get k index) (machine_state self.now) (word_answer result) (machine_state self.now) }
     {
         for_make!(AnyMachine, self, machine => machine.get(k, index))
+    }
+
+    fn run_on(&mut self, k: u16, budget: u64, work: &mut [u64]) -> Result<RunEnd, Refusal>
+        ensures { Outcome (Run k budget (length work.old)) (machine_state self.old) (ended_answer result) (machine_state self.new) }
+    {
+        for_make!(AnyMachine, self, machine => machine.run(k, budget, work))
+    }
+
+    // A run with a work area of so many qwords. One that is not 258 is refused whatever it is, so none is made for it.
+    pub(crate) fn run(&mut self, k: u16, budget: u64, work: u64) -> Result<RunEnd, Refusal>
+        ensures { Outcome (Run k budget work) (machine_state self.old) (ended_answer result) (machine_state self.new) }
+    {
+        if work == 258 {
+            let mut area = [0u64; 258];
+            self.run_on(k, budget, &mut area)
+        } else {
+            self.run_on(k, budget, &mut [])
+        }
     }
 }

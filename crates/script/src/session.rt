@@ -210,6 +210,13 @@ impl Session {
         Ok(found.map_or_else(Answer::Refused, Answer::Word))
     }
 
+    fn run(&mut self, k: u16, budget: u64, work: u64) -> Result<Answer, Trouble>
+        ensures { Performed (asked.Run k budget work) self.old result self.new }
+    {
+        let ended = self.stage.machine_mut()?.run(k, budget, work);
+        Ok(ended.map_or_else(Answer::Refused, Answer::Ended))
+    }
+
     // Does what the command asks for and answers, or changes nothing where that cannot be done.
     pub fn perform(&mut self, heap: Global, command: Command<'_>) -> Result<Answer, Trouble>
         ensures { Performed command.entry self.old result self.new }
@@ -223,6 +230,7 @@ impl Session {
             Command::Set(k, index, word) => self.set(k, index, word),
             Command::Fetch(k, address, size) => self.fetch(heap, k, address, size),
             Command::Get(k, index) => self.get(k, index),
+            Command::Run(k, budget, work) => self.run(k, budget, work),
             Command::Release => self.release_memory(),
         }
     }
