@@ -1,4 +1,4 @@
-// Plays the script of the limits; what it must write was worked out by hand.
+// Plays the script of the limits that `emulator/limits` puts together; what it must write is the second emulator's answers.
 #![tactic(auto)]
 
 use std::process::ExitCode;
