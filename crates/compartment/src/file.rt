@@ -5,7 +5,6 @@ ghost use Rattle.isa.specs.Compartments.{keeps, started, filed};
 ghost use Rattle.window.specs.Windows.{parts_of};
 
 use bank::Bank;
-use isa::Code;
 use memory::{Memory, Width};
 use window::{View, Window};
 

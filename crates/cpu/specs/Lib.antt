@@ -1,2 +1,3 @@
 pub mod Configs
 pub mod Processors
+pub mod Finishing

@@ -4,6 +4,7 @@
 mod budget;
 mod effects;
 mod processor;
+mod rest;
 
 pub use budget::run;
 pub use processor::Processor;

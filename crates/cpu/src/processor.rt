@@ -1,16 +1,16 @@
 // Running instructions: one instruction, and the run of a budget.
 ghost use Rattle.std.specs.Prelude.{◌≡◌, ◌≤◌};
 ghost use Rattle.isa.specs.Reading.{decoded};
-ghost use Rattle.isa.specs.Steps.{P, S, held, taking, pushing, performed, obeyed, stepped};
+ghost use Rattle.isa.specs.Steps.{P, S, held, taking, performed, obeyed, stepped};
 ghost use Rattle.isa.specs.Runs.{ran};
-ghost use Rattle.isa.specs.Windows.{load as loaded};
 ghost use Rattle.memory.specs.Widths.{width_bytes};
-ghost use Rattle.numbers.specs.Values.{minus};
+ghost use Rattle.numbers.specs.Values.{plus, minus};
 ghost use Rattle.cpu.specs.Configs.{begun};
+ghost use Rattle.cpu.specs.Finishing.{finished};
 
-use super::effects::weigh;
+use super::rest::Rest;
 use bank::{Bank, Register};
-use isa::{Code, Effect, End, Instruction, decode};
+use isa::{Effect, End, Instruction};
 use memory::{Memory, Width};
 use window::Window;
 
@@ -29,62 +29,88 @@ impl<M: Memory> Processor<'_, '_, '_, M> {
     pub fn read(&self) -> Instruction
         ensures { result ≡ decoded (config_of self.now).window (held (config_of self.now) P) }
     {
-        decode(&self.window.view(), self.bank.get(Register::P))
+        self.window.instruction(self.bank.get(Register::P))
     }
 
-    // Stores a value at S, and then moves S up.
-    fn push(&mut self, width: Width, value: u64)
-        ensures { Reaches self.old self.new (pushing (config_of self.old) (width_bytes width) value) }
+    // Moves S up; where it stood.
+    fn push(&mut self, width: Width) -> u64
+        ensures top { result ≡ held (config_of self.old) S }
+        ensures next { Reaches self.old self.new (taking (config_of self.old) S (plus (held (config_of self.old) S) (width_bytes width))) }
     {
         let top = self.bank.get(Register::S);
-        self.window.store(width, top, value);
         self.bank.set(Register::S, top.wrapping_add(width.bytes()));
+        top
     }
 
-    // Moves S down; the value that is loaded there.
+    // Moves S down; where it then stands.
     fn pop(&mut self, width: Width) -> u64
-        ensures value { result ≡ loaded (config_of self.old).window (width_bytes width) (minus (held (config_of self.old) S) (width_bytes width)) }
+        ensures top { result ≡ minus (held (config_of self.old) S) (width_bytes width) }
         ensures next { Reaches self.old self.new (taking (config_of self.old) S (minus (held (config_of self.old) S) (width_bytes width))) }
     {
         let top = self.bank.get(Register::S).wrapping_sub(width.bytes());
         self.bank.set(Register::S, top);
-        self.window.view().load(width, top)
+        top
     }
 
-    // Does what is left of an instruction that was begun at p; the end, where it ends the run.
-    fn apply(&mut self, p: u64, effect: Effect) -> Option<End>
-        ensures end { result ≡ (performed effect (begun (config_of self.old) p) (config_of self.old)).end }
-        ensures next { Reaches self.old self.new (performed effect (begun (config_of self.old) p) (config_of self.old)).next }
+    // Moves the registers as the effect says; what is left to do of an instruction that was begun at p.
+    fn settle(&mut self, p: u64, effect: Effect) -> Rest
+        ensures left { finished result (config_of self.new) ≡ performed effect (begun (config_of self.old) p) (config_of self.old) }
+        ensures next { Reaches self.old self.new (config_of self.new) }
     {
         match effect {
-            Effect::Ends(end) => return Some(end),
+            Effect::Ends(end) => Rest::Ends(end),
             Effect::Faults(end) => {
                 self.bank.set(Register::P, p);
-                return Some(end);
+                Rest::Ends(end)
             }
-            Effect::Nothing => {}
-            Effect::Sets(register, value) => self.bank.set(Register::General(register), value),
-            Effect::Jumps(address) => self.bank.set(Register::P, address),
-            Effect::Stacks(address) => self.bank.set(Register::S, address),
-            Effect::Loads(register, width, address) => {
-                let value = self.window.view().load(width, address);
+            Effect::Nothing => Rest::Nothing,
+            Effect::Sets(register, value) => {
                 self.bank.set(Register::General(register), value);
+                Rest::Nothing
             }
-            Effect::Stores(width, address, value) => self.window.store(width, address, value),
-            Effect::Pushes(width, value) => self.push(width, value),
-            Effect::Pops(register, width) => {
-                let value = self.pop(width);
-                self.bank.set(Register::General(register), value);
+            Effect::Jumps(address) => {
+                self.bank.set(Register::P, address);
+                Rest::Nothing
             }
+            Effect::Stacks(address) => {
+                self.bank.set(Register::S, address);
+                Rest::Nothing
+            }
+            Effect::Loads(register, width, address) => Rest::Loads(
+                Register::General(register),
+                width,
+                address,
+            ),
+            Effect::Stores(width, address, value) => Rest::Stores(width, address, value),
+            Effect::Pushes(width, value) => Rest::Stores(width, self.push(width), value),
+            Effect::Pops(register, width) => Rest::Loads(
+                Register::General(register),
+                width,
+                self.pop(width),
+            ),
             Effect::Calls(address) => {
                 let back = self.bank.get(Register::P);
-                self.push(Width::Qword, back);
+                let top = self.push(Width::Qword);
                 self.bank.set(Register::P, address);
+                Rest::Stores(Width::Qword, top, back)
             }
-            Effect::Returns => {
-                let back = self.pop(Width::Qword);
-                self.bank.set(Register::P, back);
+            Effect::Returns => Rest::Loads(Register::P, Width::Qword, self.pop(Width::Qword)),
+        }
+    }
+
+    // Does the access that is left; the end, where the instruction ends the run.
+    fn finish(&mut self, rest: Rest) -> Option<End>
+        ensures end { result ≡ (finished rest (config_of self.old)).end }
+        ensures next { Reaches self.old self.new (finished rest (config_of self.old)).next }
+    {
+        match rest {
+            Rest::Ends(end) => return Some(end),
+            Rest::Nothing => {}
+            Rest::Loads(register, width, address) => {
+                let value = self.window.view().load(width, address);
+                self.bank.set(register, value);
             }
+            Rest::Stores(width, address, value) => self.window.store(width, address, value),
         }
         None
     }
@@ -98,8 +124,9 @@ impl<M: Memory> Processor<'_, '_, '_, M> {
         let p = self.bank.get(Register::P);
         self.bank
             .set(Register::P, p.wrapping_add(u64::from(instruction.length)));
-        let effect = weigh(instruction.operation, instruction.operands, self.bank);
-        self.apply(p, effect)
+        let effect = self.weigh(instruction.operation, instruction.operands);
+        let rest = self.settle(p, effect);
+        self.finish(rest)
     }
 
     // The instruction at P, read and performed.

@@ -2,7 +2,8 @@
 use Rattle.std.proofs.Common.{◌≡◌, ℕ, ◌+◌, ◌<◌, ◌≤◌, List, map, get_or, sym, refl, ap, ◌∙◌}
 use Rattle.std.proofs.lemmas.List.{get_or_default, get_or-map, get_or_past}
 use Rattle.isa.specs.Opcodes.{Entry, opcodes, unknown, entry_of}
-use Rattle.isa.specs.Reading.{operand_bytes}
+use Rattle.isa.specs.Reading.{operand_bytes, instruction_of}
+use Rattle.isa.specs.declared.instruction.Instruction.{Instruction}
 
 -- an opcode that the table has, at any default
 pub entry_is : (k : ℕ) (d : Entry) → k < 94 → get_or opcodes k d ≡ entry_of k
@@ -25,3 +26,7 @@ rule_known k d h =
     sym (get_or-map (λ (e : Entry). e.2) opcodes k d 0 h)
     ∙ ap (λ (ns : List ℕ). get_or ns k 0) ruled
     ∙ get_or-map (λ (e : Entry). 1 + operand_bytes e.1) opcodes k d 0 h
+
+-- an arm for opcode k, with the entry that stands at k
+pub arm_is : (k o : ℕ) (e : Entry) (w : List ℕ) (p : ℕ) (r : Instruction) → e ≡ entry_of k → o ≡ k → r ≡ instruction_of e w p → r ≡ instruction_of (entry_of o) w p
+arm_is k o e w p r at is h = h ∙ ap (λ (x : Entry). instruction_of x w p) (at ∙ ap (λ (j : ℕ). entry_of j) (sym is))

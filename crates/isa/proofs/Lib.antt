@@ -2,3 +2,4 @@ pub mod Entries
 pub mod Lengths
 pub mod Going
 pub mod Filing
+pub mod Placing

@@ -7,67 +7,74 @@ ghost use Rattle.isa.specs.Reading.{decoded, instruction_of, operands, operands_
 use super::code::Code;
 use super::form::Form;
 use super::instruction::{Instruction, Operands};
-use super::table::entry;
+use super::table::{Entry, entry};
 use memory::Width;
 
 // A register number, and a literal, an address or an offset of the width.
-fn literal<C: Code>(code: &C, p: u64, width: Width) -> Operands
-    ensures { result ≡ operands_at (Literal width) (C.Code.shown code.now) p }
+fn literal<C: Code>(code: &C, width: Width) -> Operands
+    ensures { result ≡ operands_at (Literal width) (C.Code.shown code.now) (C.Code.start code.now) }
 {
     Operands {
-        r: code.byte(p.wrapping_add(1)),
-        literal: code.load(width, p.wrapping_add(2)),
+        r: code.byte(1),
+        literal: code.load(width, 2),
         ..Operands::default()
     }
 }
 
 // The operands of an instruction at p, each by an access of its own. An arm for each form, as the page has a row for each.
-fn read_operands<C: Code>(code: &C, p: u64, form: Form) -> Operands
-    ensures { result ≡ operands_at form (C.Code.shown code.now) p }
+fn read_operands<C: Code>(code: &C, form: Form) -> Operands
+    ensures { result ≡ operands_at form (C.Code.shown code.now) (C.Code.start code.now) }
 {
     match form {
         Form::Plain => Operands::default(),
         Form::One => Operands {
-            r: code.byte(p.wrapping_add(1)),
+            r: code.byte(1),
             ..Operands::default()
         },
         Form::Two => Operands {
-            r: code.byte(p.wrapping_add(1)),
-            s: code.byte(p.wrapping_add(2)),
+            r: code.byte(1),
+            s: code.byte(2),
             ..Operands::default()
         },
         Form::Three => Operands {
-            r: code.byte(p.wrapping_add(1)),
-            s: code.byte(p.wrapping_add(2)),
-            t: code.byte(p.wrapping_add(3)),
+            r: code.byte(1),
+            s: code.byte(2),
+            t: code.byte(3),
             ..Operands::default()
         },
         Form::Five => Operands {
-            r: code.byte(p.wrapping_add(1)),
-            s: code.byte(p.wrapping_add(2)),
-            t: code.byte(p.wrapping_add(3)),
-            u: code.byte(p.wrapping_add(4)),
-            v: code.byte(p.wrapping_add(5)),
+            r: code.byte(1),
+            s: code.byte(2),
+            t: code.byte(3),
+            u: code.byte(4),
+            v: code.byte(5),
             literal: 0,
         },
-        Form::Literal(width) => literal(code, p, width),
-        Form::Address => literal(code, p, Width::Qword),
-        Form::Offset => literal(code, p, Width::Long),
+        Form::Literal(width) => literal(code, width),
+        Form::Address => literal(code, Width::Qword),
+        Form::Offset => literal(code, Width::Long),
         Form::Far => Operands {
-            literal: code.load(Width::Qword, p.wrapping_add(1)),
+            literal: code.load(Width::Qword, 1),
             ..Operands::default()
         },
     }
 }
 
-// The instruction at p.
-pub fn decode<C: Code>(code: &C, p: u64) -> Instruction
-    ensures { result ≡ decoded (C.Code.shown code.now) p }
+// The instruction of a row of the table.
+pub(crate) fn instruction<C: Code>(code: &C, row: Entry) -> Instruction
+    ensures { result ≡ instruction_of row (C.Code.shown code.now) (C.Code.start code.now) }
 {
-    let (operation, form, length) = entry(code.byte(p));
+    let (operation, form, length) = row;
     Instruction {
         operation,
-        operands: read_operands(code, p, form),
+        operands: read_operands(code, form),
         length,
     }
+}
+
+// The instruction that the code shows.
+pub fn decode<C: Code>(code: &C) -> Instruction
+    ensures { result ≡ decoded (C.Code.shown code.now) (C.Code.start code.now) }
+{
+    instruction(code, entry(code.opcode()))
 }

@@ -1,6 +1,7 @@
 // The instruction set: operations, the table of opcodes, and reading an instruction from a window.
 #![tactic(auto)]
 
+mod arms;
 mod code;
 mod decoder;
 mod effect;
@@ -10,6 +11,7 @@ mod instruction;
 mod operation;
 mod table;
 
+pub use arms::decode_by_arms;
 pub use code::Code;
 pub use decoder::decode;
 pub use effect::Effect;

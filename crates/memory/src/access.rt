@@ -1,19 +1,10 @@
-// Big-endian access of one to eight bytes over any memory, a byte at a time.
-ghost use Rattle.std.specs.Prelude.{◌≡◌, ℕ, ◌+◌, ◌^◌, ◌<◌, ◌≤◌, length, slice_index};
+// Big-endian access of one to eight bytes over any memory, at every address.
+ghost use Rattle.std.specs.Prelude.{◌≡◌};
 ghost use Rattle.memory.specs.Bytes.{value_at, put_at};
 ghost use Rattle.memory.specs.Widths.{width_bytes};
 
 use super::meaning::{LIMIT, Memory};
 use super::width::Width;
-
-// The N bytes from the address on. What walks from an address asks that the sum does not wrap; all callers have tested it.
-fn gather<M: Memory, const N: usize>(memory: &M, address: u64) -> [u8; N]
-    requires { address + N ≤ 2 ^ 64 }
-    ensures length { length result ≡ N }
-    ensures each { (k : ℕ) → k < N → slice_index result k ≡ slice_index (M.Memory.bytes memory.now) (address + k) }
-{
-    std::array::from_fn(|i| memory.read(address + i as u64))
-}
 
 // The number that the bytes from the address on stand for; a place that the memory lacks counts as 0.
 pub fn load<M: Memory>(memory: &M, address: u64, width: Width) -> u64
@@ -22,22 +13,11 @@ pub fn load<M: Memory>(memory: &M, address: u64, width: Width) -> u64
     if address >= LIMIT {
         return 0;
     }
-    match width {
-        Width::Byte => u64::from(memory.read(address)),
-        Width::Short => u64::from(u16::from_be_bytes(gather(memory, address))),
-        Width::Long => u64::from(u32::from_be_bytes(gather(memory, address))),
-        Width::Qword => u64::from_be_bytes(gather(memory, address)),
+    let mut value = 0;
+    for i in 0..width.bytes() {
+        value = value << 8 | u64::from(memory.read(address + i));
     }
-}
-
-// Puts the bytes in their places from the address on, the last one first.
-fn scatter<M: Memory, const N: usize>(memory: &mut M, address: u64, bytes: [u8; N])
-    requires { address + N ≤ 2 ^ 64 }
-    ensures { M.Memory.bytes memory.new ≡ put_at (M.Memory.bytes memory.old) address N (value_at bytes.entry 0 N) }
-{
-    for (i, byte) in bytes.iter().enumerate().rev() {
-        memory.write(address + i as u64, *byte);
-    }
+    value
 }
 
 // Puts the low bytes of the value from the address on, the last byte first; a place that the memory lacks takes nothing.
@@ -47,14 +27,9 @@ pub fn store<M: Memory>(memory: &mut M, address: u64, width: Width, value: u64)
     if address >= LIMIT {
         return;
     }
-    match width {
-        Width::Byte => memory.write(address, (value & 0xff) as u8),
-        Width::Short => scatter(memory, address, ((value & 0xffff) as u16).to_be_bytes()),
-        Width::Long => scatter(
-            memory,
-            address,
-            ((value & 0xffff_ffff) as u32).to_be_bytes(),
-        ),
-        Width::Qword => scatter(memory, address, value.to_be_bytes()),
+    let mut rest = value;
+    for i in (0..width.bytes()).rev() {
+        memory.write(address + i, (rest & 0xff) as u8);
+        rest >>= 8;
     }
 }

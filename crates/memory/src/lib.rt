@@ -3,6 +3,7 @@
 
 mod access;
 mod element;
+mod inside;
 mod laws;
 mod meaning;
 mod owned;
@@ -11,6 +12,7 @@ mod width;
 
 pub use access::{load, store};
 pub use element::Element;
+pub use inside::{has, load_inside, store_inside};
 pub use laws::accesses_stand;
 pub use meaning::Memory;
 pub use owned::{Flat, Owned, Words};

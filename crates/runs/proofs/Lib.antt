@@ -2,6 +2,5 @@ pub mod Ends
 pub mod Walks
 pub mod Fits
 pub mod Keeps
-pub mod Placing
 pub mod Returning
 pub mod Files

@@ -7,7 +7,7 @@ use Rattle.numbers.specs.Values.{plus, minus}
 use Rattle.isa.specs.Windows.{load, store, placed}
 use Rattle.isa.specs.Steps.{Config, P, S, held, taking, pushing, popping}
 use Rattle.runs.specs.Stack.{PopsReturn, CallsReturn}
-use Rattle.runs.proofs.Placing.{placed_fits}
+use Rattle.isa.proofs.Placing.{placed_fits}
 
 -- what is stored where it fits is loaded there again
 load_store : (w : List ℕ) (n a v : ℕ) → a + n ≤ length w → load (store w n a v) n a ≡ v % 256 ^ n

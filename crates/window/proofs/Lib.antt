@@ -1,2 +1,3 @@
 pub mod Seeing
 pub mod Apart
+pub mod Insides

@@ -1,6 +1,7 @@
 // A window over any memory: loads and stores that all happen inside of it.
 #![tactic(auto)]
 
+mod code;
 mod extent;
 mod view;
 mod window;

@@ -1,12 +1,11 @@
 // A window as it is read.
 ghost use Rattle.std.specs.Prelude.{◌≡◌, ◌+◌, ◌≤◌};
-ghost use Rattle.isa.specs.Windows.{placed};
+ghost use Rattle.isa.specs.Windows.{load as loaded, placed};
 ghost use Rattle.memory.specs.Widths.{width_bytes};
 ghost use Rattle.window.specs.Views.{seen, Whole};
 
 use super::extent::Extent;
-use isa::Code;
-use memory::{Memory, Width};
+use memory::{Memory, Width, load_inside};
 use std::marker::Model;
 
 // The bytes of an extent that the memory has whole; a clause sees them as a list.
@@ -37,36 +36,20 @@ impl<'a, M: Memory> View<'a, M> {
     }
 }
 
-impl<M: Memory> Code for View<'_, M> {
-    ghost shown = { λ v. v };
-
-    #[tactic(auto, using(crate::proofs::Seeing::byte_seen))]
-    fn byte(&self, address: u64) -> u8 {
-        self.memory
-            .read(place(self.memory, self.extent, Width::Byte, address))
-    }
-
+impl<M: Memory> View<'_, M> {
     #[tactic(auto, using(crate::proofs::Seeing::load_seen))]
-    fn load(&self, width: Width, address: u64) -> u64 {
-        memory::load(
-            self.memory,
-            place(self.memory, self.extent, width, address),
-            width,
-        )
+    pub fn load(&self, width: Width, address: u64) -> u64
+        ensures { result ≡ loaded self.now (width_bytes width) address }
+    {
+        load_inside(self.memory, place(self.extent, width, address), width)
     }
 }
 
-// The memory address of an access at window address a. The test tells the compiler that the memory has all its bytes,
-// so that no byte is tested again. Both kinds of window have what it asks as a fact.
-pub(crate) fn place<M: Memory>(memory: &M, extent: Extent, width: Width, a: u64) -> u64
-    requires { Whole (M.Memory.bytes memory.now) extent }
+// The memory address of an access at window address a.
+pub(crate) fn place(extent: Extent, width: Width, a: u64) -> u64
     ensures is { result ≡ extent.off + placed (extent.max + 1) (width_bytes width) a }
     ensures fits { placed (extent.max + 1) (width_bytes width) a + width_bytes width ≤ extent.max + 1 }
 {
     let last = width.bytes() - 1;
-    let at = extent.off + (if a <= extent.max - last { a } else { 0 });
-    if memory.size() <= at + last {
-        unreachable()
-    }
-    at
+    extent.off + (if a <= extent.max - last { a } else { 0 })
 }

@@ -1,12 +1,15 @@
 // A window as it is read and written.
 ghost use Rattle.std.specs.Prelude.{◌≡◌};
+ghost use Rattle.isa.specs.Reading.{decoded};
 ghost use Rattle.isa.specs.Windows.{store as stored};
 ghost use Rattle.memory.specs.Widths.{width_bytes};
 ghost use Rattle.window.specs.Views.{Whole};
 
+use super::code::{Anywhere, Inside};
 use super::extent::Extent;
 use super::view::{View, place};
-use memory::{Memory, Width};
+use isa::{Instruction, decode, decode_by_arms};
+use memory::{Memory, Width, store_inside};
 
 // The bytes of an extent that the memory has whole, and that may change. No model hides the memory: its lender would
 // learn nothing of what a model's drop left.
@@ -27,11 +30,25 @@ impl<M: Memory> Window<'_, M> {
         View::new(self.memory, self.extent)
     }
 
+    // The instruction at an address. Those that lie inside are read often.
+    pub fn instruction(&self, p: u64) -> Instruction
+        ensures { result ≡ decoded (parts_of self.now).window p }
+    {
+        match Inside::at(self.memory, self.extent, p) {
+            Some(code) => decode_by_arms(&code),
+            None => decode(&Anywhere {
+                memory: self.memory,
+                extent: self.extent,
+                p,
+            }),
+        }
+    }
+
     pub fn store(&mut self, width: Width, address: u64, value: u64)
         ensures parts { parts_of self.new ≡ record (parts_of self.old) { window = stored (parts_of self.old).window (width_bytes width) address value } }
         ensures lent { self.new.memory.ghost_name ≡ self.old.memory.ghost_name }
     {
-        let at = place(self.memory, self.extent, width, address);
-        memory::store(self.memory, at, width, value);
+        let at = place(self.extent, width, address);
+        store_inside(self.memory, at, width, value);
     }
 }

@@ -1,33 +1,37 @@
-use Rattle.std.proofs.Common.{◌≡◌, ℕ, List, get_or, sym, ap, ◌∙◌, add-zero, arith}
+use Rattle.std.proofs.Common.{◌≡◌, ℕ, ◌+◌, ◌*◌, ◌%◌, ◌^◌, ◌<◌, ◌≤◌, List, get_or, bit_or, refl, ap, ◌∙◌, add-one, pow-suc, arith}
+use Rattle.std.proofs.Math.Nat.{pow-le-pow_right}
+use Rattle.std.proofs.lemmas.Nat.{or_shifted}
 use Rattle.memory.specs.Bytes.{value_at}
 use Rattle.memory.specs.Widths.{width_bytes}
 use Rattle.memory.specs.declared.width.Width.{Width}
-use Rattle.memory.proofs.Digits.{from_be, from_be_2, from_be_4}
-use Rattle.memory.proofs.Puts.{value_at-gathered, value_at_past}
+use Rattle.memory.specs.declared.width.Width.TheVariants.{Byte, Short, Long, Qword}
+use Rattle.memory.proofs.Puts.{value_at_past}
 use Rattle.memory.proofs.access.load.Goals as goal
 
--- what an arm gives is the value at the width that it stands for
-at_width : (bs : List ℕ) (a r : ℕ) (w v : Width) → w ≡ v → r ≡ value_at bs a (width_bytes v) → r ≡ value_at bs a (width_bytes w)
-at_width bs a r w v e h = h ∙ ap (λ (u : Width). value_at bs a (width_bytes u)) (sym e)
+eight : (w : Width) → width_bytes w ≤ 8
+eight Byte = omega arith
+eight Short = omega arith
+eight Long = omega arith
+eight Qword = omega arith
+
+-- one byte more, below those that are there
+one_more : (bs : List ℕ) (a n v b : ℕ) → n < 8 → b < 256 → b ≡ get_or bs (a + n) 0 → (v ≡ value_at bs a n) × (v < 256 ^ n) → (bit_or (v * 256 % 2 ^ 64) b ≡ value_at bs a (n + 1)) × (bit_or (v * 256 % 2 ^ 64) b < 256 ^ (n + 1))
+unfolding value_at
+one_more bs a n v b few small is h =
+    let l : 256 ^ n ≤ 256 ^ 7 = pow-le-pow_right (omega arith) {i = n} {j = 7} (omega arith) in
+    let fits : v * 256 % 2 ^ 64 ≡ v * 256 = omega (arith, h.1) in
+    let e : bit_or (v * 256 % 2 ^ 64) b ≡ v * 256 + b = ap (λ (x : ℕ). bit_or x b) fits ∙ or_shifted v 8 b small in
+    rw (e, add-one) (omega (arith, h.0), rw (pow-suc 256 n) (omega (arith, h.1)))
 
 pub returns-then-address-ge-LIMIT : goal.returns-then-address-ge-LIMIT
 returns-then-address-ge-LIMIT g c =
     let s = g.met.M.Memory.short c.args.memory.now in
     value_at_past _ c.args.address _ (omega arith)
 
-pub returns-in-Byte : goal.returns-in-Byte
+pub loop-i-init : goal.loop-i-init
 unfolding value_at
-returns-in-Byte g c =
-    let z = ap (λ (k : ℕ). get_or (g.M.Memory.bytes c.args.memory.now) k 0) (add-zero c.args.address) in
-    at_width _ _ _ _ _ c.in-Byte.is (omega arith)
+loop-i-init g c = (refl, omega arith)
 
-pub returns-in-Short : goal.returns-in-Short
-returns-in-Short g c = at_width _ _ _ _ _ c.in-Short.is
-    (c.from-in-Short.ensures ∙ c.from_be_bytes.ensures ∙ from_be_2 _ ∙ value_at-gathered _ _ _ _ c.gather.ensures.each)
-
-pub returns-in-Long : goal.returns-in-Long
-returns-in-Long g c = at_width _ _ _ _ _ c.in-Long.is
-    (c.from-in-Long.ensures ∙ c.from_be_bytes-in-Long.ensures ∙ from_be_4 _ ∙ value_at-gathered _ _ _ _ c.gather-in-Long.ensures.each)
-
-pub returns-in-Qword : goal.returns-in-Qword
-returns-in-Qword g c = at_width _ _ _ _ _ c.in-Qword.is (c.from_be_bytes-in-Qword.ensures ∙ from_be _ ∙ value_at-gathered _ _ _ _ c.gather-in-Qword.ensures.each)
+pub loop-i-preserved : goal.loop-i-preserved
+loop-i-preserved g c = one_more _ c.args.address c.loop-i.i _ _
+    (omega (arith, eight c.args.width)) (omega arith) (c.from.ensures ∙ c.read.ensures) c.loop-i.invariant

@@ -1,34 +1,21 @@
-use Rattle.std.proofs.Common.{◌≡◌, ℕ, List, sym, ap, ◌∙◌, arith}
-use Rattle.memory.specs.Bytes.{put_at}
-use Rattle.memory.specs.Widths.{width_bytes}
-use Rattle.memory.specs.declared.width.Width.{Width}
+use Rattle.std.proofs.Common.{◌≡◌, ℕ, suc, ◌-◌, refl, ap, ◌∙◌, arith}
 use Rattle.std.proofs.lemmas.Nat.{and_mask}
-use Rattle.memory.proofs.Digits.{to_be, to_be_2, to_be_4}
-use Rattle.memory.proofs.Puts.{put_at_past, put_none, put_more}
-use Rattle.memory.proofs.Scatters.{put_bytes_of, put_masked}
+use Rattle.memory.specs.Bytes.{put_at}
+use Rattle.memory.proofs.Puts.{put_at_past, put_more}
+use Rattle.memory.proofs.Scatters.{put_done}
 use Rattle.memory.proofs.access.store.Goals as goal
-
--- what an arm leaves is what is put at the width that it stands for
-at_width : (bs cs : List ℕ) (a x : ℕ) (w v : Width) → w ≡ v → cs ≡ put_at bs a (width_bytes v) x → cs ≡ put_at bs a (width_bytes w) x
-at_width bs cs a x w v e h = h ∙ ap (λ (u : Width). put_at bs a (width_bytes u) x) (sym e)
 
 pub returns-then-address-ge-LIMIT : goal.returns-then-address-ge-LIMIT
 returns-then-address-ge-LIMIT g c =
     let s = g.met.M.Memory.short c.args.memory.now in
     put_at_past _ c.args.address _ _ (omega arith)
 
-pub returns-in-Byte : goal.returns-in-Byte
-returns-in-Byte g c = at_width _ _ _ _ _ _ c.in-Byte.is
-    (put_more _ _ 0 _ c.write.ensures.value (omega arith) (and_mask c.args.value 8) (put_none _ _ _))
+pub loop-i-preserved : goal.loop-i-preserved
+loop-i-preserved g c =
+    let left : suc (c.loop-i.i - 1) ≡ c.loop-i.i = omega arith in
+    put_more _ _ _ _ c.write.ensures.value refl (and_mask c.loop-i.rest 8) refl
+    ∙ ap (λ (n : ℕ). put_at (g.M.Memory.bytes c.loop-i.memory) c.args.address n c.loop-i.rest) left
+    ∙ c.loop-i.invariant
 
-pub returns-in-Short : goal.returns-in-Short
-returns-in-Short g c = at_width _ _ _ _ _ _ c.in-Short.is
-    (c.scatter.ensures ∙ put_bytes_of _ _ _ 2 _ (c.to_be_bytes.ensures ∙ to_be_2 _) ∙ put_masked _ _ 2 _ _ (and_mask c.args.value 16))
-
-pub returns-in-Long : goal.returns-in-Long
-returns-in-Long g c = at_width _ _ _ _ _ _ c.in-Long.is
-    (c.scatter-in-Long.ensures ∙ put_bytes_of _ _ _ 4 _ (c.to_be_bytes-in-Long.ensures ∙ to_be_4 _) ∙ put_masked _ _ 4 _ _ (and_mask c.args.value 32))
-
-pub returns-in-Qword : goal.returns-in-Qword
-returns-in-Qword g c = at_width _ _ _ _ _ _ c.in-Qword.is
-    (c.scatter-in-Qword.ensures ∙ put_bytes_of _ _ _ 8 _ (c.to_be_bytes-in-Qword.ensures ∙ to_be _))
+pub returns : goal.returns
+returns g c = put_done _ _ _ c.loop-i.i _ (omega arith) c.loop-i.invariant

@@ -1,7 +1,7 @@
 use Rattle.std.proofs.Common.{rules, ℕ, ◌<◌, List, length, ap, ◌∙◌, arith}
 use Rattle.memory.specs.Bytes.{value_at, put_at}
 use Rattle.memory.proofs.Scatters.{next_is, one_less, put_done, put_step}
-use Rattle.memory.proofs.access.scatter.Goals as goal
+use Rattle.memory.proofs.inside.scatter.Goals as goal
 
 pub loop-i-preserved : goal.loop-i-preserved
 loop-i-preserved g c =
@@ -19,5 +19,5 @@ loop-i-preserved g c =
           ∙ inv.3,
     )
 
-pub returns : goal.returns
-returns g c = put_done _ _ _ _ _ c.in-None.ensures.steps.1.0 c.loop-i.invariant.3
+pub returns-then-has : goal.returns-then-has
+returns-then-has g c = put_done _ _ _ _ _ c.in-None.ensures.steps.1.0 c.loop-i.invariant.3

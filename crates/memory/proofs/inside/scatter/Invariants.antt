@@ -1,6 +1,6 @@
 use Rattle.std.proofs.Common.{◌≡◌, ◌≤◌, length, take}
 use Rattle.memory.specs.Bytes.{value_at, put_at}
-use Rattle.memory.proofs.access.scatter.Given as goal
+use Rattle.memory.proofs.inside.scatter.Given as goal
 
 abbrev pub invariant-loop-i : goal.invariant-loop-i
 invariant-loop-i g l =

@@ -1,0 +1,93 @@
+// The code at an address of a window.
+ghost use Rattle.std.specs.Prelude.{◌≡◌, ◌+◌, ◌≤◌, IfSome};
+ghost use Rattle.window.specs.Views.{seen, Whole};
+
+use super::extent::Extent;
+use super::view::place;
+use isa::Code;
+use memory::{Memory, Width, has, load_inside};
+
+// No byte of an instruction stands further behind its opcode.
+const LAST: u64 = 9;
+
+// An instruction that may lie anywhere: each access is placed for itself.
+#[derive(Drop)]
+pub(crate) struct Anywhere<'a, M: Memory> {
+    pub(crate) memory: &'a M,
+    pub(crate) extent: Extent,
+    pub(crate) p: u64,
+    ghost whole: { Whole (M.Memory.bytes memory.now) extent },
+}
+
+impl<M: Memory> Code for Anywhere<'_, M> {
+    ghost shown = { λ c. seen (M.Memory.bytes c.memory.now) c.extent };
+
+    ghost start = { λ c. c.p };
+
+    #[tactic(auto, using(crate::proofs::Seeing::byte_seen))]
+    fn opcode(&self) -> u8 {
+        self.memory.read(place(self.extent, Width::Byte, self.p))
+    }
+
+    #[tactic(auto, using(crate::proofs::Seeing::byte_seen))]
+    fn byte(&self, i: u64) -> u8 {
+        self.memory
+            .read(place(self.extent, Width::Byte, self.p.wrapping_add(i)))
+    }
+
+    #[tactic(auto, using(crate::proofs::Seeing::load_seen))]
+    fn load(&self, width: Width, i: u64) -> u64 {
+        load_inside(
+            self.memory,
+            place(self.extent, width, self.p.wrapping_add(i)),
+            width,
+        )
+    }
+}
+
+// An instruction all of whose bytes lie in the window, however many it has: none is placed elsewhere.
+#[derive(Drop)]
+pub(crate) struct Inside<'a, M: Memory> {
+    memory: &'a M,
+    extent: Extent,
+    p: u64,
+    ghost whole: { Whole (M.Memory.bytes memory.now) extent },
+    ghost inside: { p + 10 ≤ extent.max + 1 },
+}
+
+impl<'a, M: Memory> Inside<'a, M> {
+    // The second test tells the compiler that the memory has the bytes, so that no byte is tested again.
+    pub(crate) fn at(memory: &'a M, extent: Extent, p: u64) -> Option<Inside<'a, M>>
+        requires { Whole (M.Memory.bytes memory.now) extent }
+        ensures { IfSome result (λ c. (seen (M.Memory.bytes c.memory.now) c.extent ≡ seen (M.Memory.bytes memory.now) extent) × (c.p ≡ p)) }
+    {
+        if extent.max < LAST || p > extent.max - LAST {
+            return None;
+        }
+        if has(memory, extent.off + p, LAST + 1) {
+            return Some(Inside { memory, extent, p });
+        }
+        unreachable!()
+    }
+}
+
+impl<M: Memory> Code for Inside<'_, M> {
+    ghost shown = { λ c. seen (M.Memory.bytes c.memory.now) c.extent };
+
+    ghost start = { λ c. c.p };
+
+    #[tactic(auto, using(crate::proofs::Seeing::byte_seen, isa::proofs::Placing::placed_fits))]
+    fn opcode(&self) -> u8 {
+        self.memory.read(self.extent.off + self.p)
+    }
+
+    #[tactic(auto, using(crate::proofs::Insides::byte_inside_seen))]
+    fn byte(&self, i: u64) -> u8 {
+        self.memory.read(self.extent.off + self.p + i)
+    }
+
+    #[tactic(auto, using(crate::proofs::Insides::load_inside_seen))]
+    fn load(&self, width: Width, i: u64) -> u64 {
+        load_inside(self.memory, self.extent.off + self.p + i, width)
+    }
+}
