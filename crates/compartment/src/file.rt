@@ -5,7 +5,7 @@ ghost use Rattle.isa.specs.Compartments.{keeps, started, filed};
 ghost use Rattle.window.specs.Windows.{parts_of};
 
 use bank::Bank;
-use memory::{Memory, Width};
+use memory::Memory;
 use window::{View, Window};
 
 // Whether the entry lasts from run to run.
@@ -23,7 +23,7 @@ pub(crate) fn take_in<M: Memory>(file: &View<'_, M>, saved: u16, registers: &mut
 {
     for (index, register) in registers.iter_mut().enumerate() {
         *register = if lasts(saved, index) {
-            file.load(Width::Qword, 8 * index as u64)
+            file.qword(8 * index as u64)
         } else {
             0
         };
@@ -38,7 +38,7 @@ pub(crate) fn put_back<M: Memory>(file: &mut Window<'_, M>, saved: u16, bank: &B
 {
     for (index, register) in bank.words().iter().enumerate() {
         if lasts(saved, index) {
-            file.store(Width::Qword, 8 * index as u64, *register);
+            file.put_qword(8 * index as u64, *register);
         }
     }
 }

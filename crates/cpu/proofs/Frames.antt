@@ -1,7 +1,7 @@
 -- A step over a memory's bytes: bs and rs before it, bs' and rs' after it. No proof cites these lemmas any more, which speak
 -- of a memory and an extent; they stand since a page names them.
 use Rattle.std.proofs.Common.{◌≡◌, ℕ, ◌+◌, List, length, sym, ap, ◌∙◌}
-use Rattle.isa.specs.Steps.{Config, stepped}
+use Rattle.isa.specs.Steps.{stepped}
 use Rattle.isa.proofs.Lengths.{same_stepped}
 use Rattle.window.specs.declared.extent.Extent.{Extent}
 use Rattle.window.specs.Views.{seen, replaced, Whole}

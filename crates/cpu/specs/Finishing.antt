@@ -1,5 +1,4 @@
 -- What is done last of an instruction, once the registers have moved.
-use Rattle.std.specs.Prelude.{ℕ}
 use Rattle.memory.specs.Widths.{width_bytes}
 use Rattle.isa.specs.Windows.{load}
 use Rattle.isa.specs.Steps.{Config, Stepped, taking, storing, goes_on, ends}

@@ -7,7 +7,8 @@ ghost use Rattle.isa.specs.Reading.{decoded, instruction_of, operands, operands_
 use super::code::Code;
 use super::form::Form;
 use super::instruction::{Instruction, Operands};
-use super::table::{Entry, entry};
+use super::operation::Operation;
+use super::table::entry;
 use memory::Width;
 
 // A register number, and a literal, an address or an offset of the width.
@@ -60,11 +61,15 @@ fn read_operands<C: Code>(code: &C, form: Form) -> Operands
     }
 }
 
-// The instruction of a row of the table.
-pub(crate) fn instruction<C: Code>(code: &C, row: Entry) -> Instruction
-    ensures { result ≡ instruction_of row (C.Code.shown code.now) (C.Code.start code.now) }
+// The instruction of a row of the table, which is handed in by parts, so that they stay constants where they are known.
+pub(crate) fn instruction<C: Code>(
+    code: &C,
+    operation: Operation,
+    form: Form,
+    length: u8,
+) -> Instruction
+    ensures { result ≡ instruction_of (operation, form, length) (C.Code.shown code.now) (C.Code.start code.now) }
 {
-    let (operation, form, length) = row;
     Instruction {
         operation,
         operands: read_operands(code, form),
@@ -72,9 +77,17 @@ pub(crate) fn instruction<C: Code>(code: &C, row: Entry) -> Instruction
     }
 }
 
+// The instruction of an opcode that was read.
+pub(crate) fn look_up<C: Code>(code: &C, opcode: u8) -> Instruction
+    ensures { result ≡ instruction_of (entry_of opcode) (C.Code.shown code.now) (C.Code.start code.now) }
+{
+    let (operation, form, length) = entry(opcode);
+    instruction(code, operation, form, length)
+}
+
 // The instruction that the code shows.
 pub fn decode<C: Code>(code: &C) -> Instruction
     ensures { result ≡ decoded (C.Code.shown code.now) (C.Code.start code.now) }
 {
-    instruction(code, entry(code.opcode()))
+    look_up(code, code.opcode())
 }

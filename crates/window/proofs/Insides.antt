@@ -1,5 +1,5 @@
 -- What is read of an instruction that lies inside of the window whole.
-use Rattle.std.proofs.Common.{◌≡◌, ℕ, ◌+◌, ◌<◌, ◌≤◌, List, get_or, sym, ap, ◌∙◌, arith}
+use Rattle.std.proofs.Common.{◌≡◌, ℕ, ◌+◌, ◌≤◌, List, get_or, ap, ◌∙◌, arith}
 use Rattle.memory.specs.Bytes.{value_at}
 use Rattle.numbers.specs.Values.{plus}
 use Rattle.isa.specs.Windows.{placed, load}

@@ -43,6 +43,18 @@ impl<M: Memory> View<'_, M> {
     {
         load_inside(self.memory, place(self.extent, width, address), width)
     }
+
+    // The same of a qword, for what is loaded seldom: `load` is built into the loop of a run where nothing else uses it.
+    #[tactic(auto, using(crate::proofs::Seeing::load_seen))]
+    pub fn qword(&self, address: u64) -> u64
+        ensures { result ≡ loaded self.now 8 address }
+    {
+        memory::load(
+            self.memory,
+            place(self.extent, Width::Qword, address),
+            Width::Qword,
+        )
+    }
 }
 
 // The memory address of an access at window address a.

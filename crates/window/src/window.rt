@@ -51,4 +51,13 @@ impl<M: Memory> Window<'_, M> {
         let at = place(self.extent, width, address);
         store_inside(self.memory, at, width, value);
     }
+
+    // The same of a qword, for what is stored seldom.
+    pub fn put_qword(&mut self, address: u64, value: u64)
+        ensures parts { parts_of self.new ≡ record (parts_of self.old) { window = stored (parts_of self.old).window 8 address value } }
+        ensures lent { self.new.memory.ghost_name ≡ self.old.memory.ghost_name }
+    {
+        let at = place(self.extent, Width::Qword, address);
+        memory::store(self.memory, at, Width::Qword, value);
+    }
 }

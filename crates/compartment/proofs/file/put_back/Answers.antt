@@ -17,7 +17,7 @@ loop-index-preserved g c =
       | then-lasts w ↦ record {
         so_far =
             ap (λ (f : _). parts_of f) w.file-is
-            ∙ kept_back _ _ _ c.requires (parts_of c.args.file.now) c.loop-index.index below _ so_far (parts_of w.store.new.self) _ (sym c.lasts.ensures ∙ w.if-lasts.true) word w.store.ensures.parts;
+            ∙ kept_back _ _ _ c.requires (parts_of c.args.file.now) c.loop-index.index below _ so_far (parts_of w.put_qword.new.self) _ (sym c.lasts.ensures ∙ w.if-lasts.true) word w.put_qword.ensures.parts;
         same_memory = search rules;
       }
       | else-lasts w ↦ record {

@@ -13,7 +13,7 @@ loop-index-preserved g c =
     let i = c.loop-index.index in
     let is : c.if-lasts.register ≡ f i =
     elim c.if-lasts.branch [
-      | then-lasts w ↦ w.register-is ∙ w.load.ensures ∙ load_entry c.args.file.now c.requires.long i (omega arith)
+      | then-lasts w ↦ w.register-is ∙ w.qword.ensures ∙ load_entry c.args.file.now c.requires.long i (omega arith)
           ∙ sym (ap (λ (b : Bool). cond b (entry_value c.args.file.now i) 0) (sym c.lasts.ensures ∙ w.if-lasts.true))
       | else-lasts w ↦ w.register-is ∙ sym (ap (λ (b : Bool). cond b (entry_value c.args.file.now i) 0) (sym c.lasts.ensures ∙ w.if-lasts.false))
     ] in
