@@ -6,7 +6,7 @@ ghost use Rattle.machine.specs.Machines.{opening};
 ghost use Rattle.machine.specs.Outcomes.{Outcome};
 ghost use Rattle.script.specs.Stores.{store_bytes, machine_state};
 
-use super::store::{Store, for_make, map_make};
+use super::store::{Store, for_make, keep_make, map_make};
 use machine::{Machine, Refusal, RunEnd};
 use memory::{Flat, Spliced, Words};
 use plan::Plan;
@@ -63,21 +63,12 @@ impl AnyMachine {
         for_make!(AnyMachine, self, machine => machine.get(k, index))
     }
 
-    fn run_on(&mut self, k: u16, budget: u64, work: &mut [u64]) -> Result<RunEnd, Refusal>
-        ensures { Outcome (Run k budget (length work.old)) (machine_state self.old) (ended_answer result) (machine_state self.new) }
+    // A run with a work area of so many qwords. One that is not 258 is refused whatever it is, so none is made for it. Machine
+    // and work area are this function's own: so the compiler knows that no store of a run changes where they lie.
+    pub(crate) fn run(self, k: u16, budget: u64, work: u64) -> (AnyMachine, Result<RunEnd, Refusal>)
+        ensures { Outcome (Run k budget work) (machine_state self) (ended_answer result.1) (machine_state result.0) }
     {
-        for_make!(AnyMachine, self, machine => machine.run(k, budget, work))
-    }
-
-    // A run with a work area of so many qwords. One that is not 258 is refused whatever it is, so none is made for it.
-    pub(crate) fn run(&mut self, k: u16, budget: u64, work: u64) -> Result<RunEnd, Refusal>
-        ensures { Outcome (Run k budget work) (machine_state self.old) (ended_answer result) (machine_state self.new) }
-    {
-        if work == 258 {
-            let mut area = [0u64; 258];
-            self.run_on(k, budget, &mut area)
-        } else {
-            self.run_on(k, budget, &mut [])
-        }
+        let length = if work == 258 { 258 } else { 0 };
+        keep_make!(AnyMachine, self, machine => machine.run(k, budget, &mut [0u64; 258][..length]))
     }
 }

@@ -213,8 +213,17 @@ impl Session {
     fn run(&mut self, k: u16, budget: u64, work: u64) -> Result<Answer, Trouble>
         ensures { Performed (asked.Run k budget work) self.old result self.new }
     {
-        let ended = self.stage.machine_mut()?.run(k, budget, work);
-        Ok(ended.map_or_else(Answer::Refused, Answer::Ended))
+        match mem::replace(&mut self.stage, Stage::Nothing) {
+            Stage::Made(machine) => {
+                let (machine, ended) = machine.run(k, budget, work);
+                self.stage = Stage::Made(machine);
+                Ok(ended.map_or_else(Answer::Refused, Answer::Ended))
+            }
+            stage => {
+                self.stage = stage;
+                Err(Trouble::NoMachine)
+            }
+        }
     }
 
     // Does what the command asks for and answers, or changes nothing where that cannot be done.

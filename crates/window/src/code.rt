@@ -61,7 +61,7 @@ impl<'a, M: Memory> Inside<'a, M> {
         requires { Whole (M.Memory.bytes memory.now) extent }
         ensures { IfSome result (λ c. (seen (M.Memory.bytes c.memory.now) c.extent ≡ seen (M.Memory.bytes memory.now) extent) × (c.p ≡ p)) }
     {
-        if extent.max < LAST || p > extent.max - LAST {
+        if p >= extent.max.saturating_sub(LAST - 1) {
             return None;
         }
         if has(memory, extent.off + p, LAST + 1) {

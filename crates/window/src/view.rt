@@ -38,10 +38,22 @@ impl<'a, M: Memory> View<'a, M> {
 
 impl<M: Memory> View<'_, M> {
     #[tactic(auto, using(crate::proofs::Seeing::load_seen))]
-    pub fn load(&self, width: Width, address: u64) -> u64
+    fn number(&self, width: Width, address: u64) -> u64
         ensures { result ≡ loaded self.now (width_bytes width) address }
     {
         load_inside(self.memory, place(self.extent, width, address), width)
+    }
+
+    // An arm for each width, so that the compiler builds each one in for itself.
+    pub fn load(&self, width: Width, address: u64) -> u64
+        ensures { result ≡ loaded self.now (width_bytes width) address }
+    {
+        match width {
+            Width::Byte => self.number(Width::Byte, address),
+            Width::Short => self.number(Width::Short, address),
+            Width::Long => self.number(Width::Long, address),
+            Width::Qword => self.number(Width::Qword, address),
+        }
     }
 
     // The same of a qword, for what is loaded seldom: `load` is built into the loop of a run where nothing else uses it.
