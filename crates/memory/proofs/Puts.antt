@@ -66,6 +66,14 @@ value_at-gathered ps bs a (suc n) h =
     let z : get_or ps (0 + n) 0 ≡ get_or ps n 0 = rw (zero-add n) refl in
     omega arith
 
+-- one byte more that is gathered, behind those that are there
+pub value_at-set : (ps bs : List ℕ) (a m n b : ℕ) → m < length ps → b ≡ get_or bs (a + n) 0 → value_at ps 0 m ≡ value_at bs a n → value_at (set ps m b) 0 (suc m) ≡ value_at bs a (suc n)
+unfolding value_at
+value_at-set ps bs a m n b h e front =
+    let u : value_at (set ps m b) 0 m ≡ value_at ps 0 m = value_at-gathered (set ps m b) ps 0 m (λ k l. rw (zero-add k) (get_or-set_other ps m k b 0 (λ q. omega arith))) in
+    let w : get_or (set ps m b) (0 + m) 0 ≡ b = rw (zero-add m) (get_or-set_same ps m b 0 h) in
+    omega arith
+
 -- past the end there is nothing to load or store
 pub value_at_past : (bs : List ℕ) (a n : ℕ) → length bs ≤ a → 0 ≡ value_at bs a n
 unfolding value_at

@@ -7,11 +7,12 @@ use Rattle.memory.specs.Bytes.{bytes_of, value_at, put_at}
 use Rattle.memory.specs.Elements.{length-bytes_of}
 use Rattle.memory.proofs.Puts.{big, put_none, value_at-gathered}
 
-put_last : (ps ms : List ℕ) (a n b : ℕ) → get_or ps n 0 ≡ b → b < 256 → put_at ms a (suc n) (value_at ps 0 (suc n)) ≡ put_at (set ms (a + n) b) a n (value_at ps 0 n)
+-- the last of the m + 1 bytes in front goes to the last of the places
+pub put_last : (ps ms : List ℕ) (a m n b : ℕ) → get_or ps m 0 ≡ b → b < 256 → put_at ms a (suc n) (value_at ps 0 (suc m)) ≡ put_at (set ms (a + n) b) a n (value_at ps 0 m)
 unfolding value_at put_at
-put_last ps ms a n b e small =
-    let v = value_at ps 0 n in
-    let z : get_or ps (0 + n) 0 ≡ b = rw (zero-add n) e in
+put_last ps ms a m n b e small =
+    let v = value_at ps 0 m in
+    let z : get_or ps (0 + m) 0 ≡ b = rw (zero-add m) e in
     ap (λ (x : ℕ). put_at (set ms (a + n) ((v * 256 + x) % 256)) a n ((v * 256 + x) / 256)) z
     ∙ ap (λ (x : ℕ). put_at (set ms (a + n) x) a n ((v * 256 + b) / 256)) (digits_mod v small)
     ∙ ap (λ (x : ℕ). put_at (set ms (a + n) b) a n x) (digits_div v small)
@@ -35,7 +36,7 @@ module _ (ps front next : List ℕ) (b : ℕ) (is : front ≡ next ++ b ∷ []) 
       ∙ take-take (length next) (length front) ps (omega (arith, one_less))
 
   pub put_step : (ms : List ℕ) (a i : ℕ) → i ≡ length next → b < 256 → put_at (set ms (a + i) b) a (length next) (value_at ps 0 (length next)) ≡ put_at ms a (length front) (value_at ps 0 (length front))
-  put_step ms a i e small = rw (e, one_less) (sym (put_last ps ms a (length next) b last_is small))
+  put_step ms a i e small = rw (e, one_less) (sym (put_last ps ms a (length next) (length next) b last_is small))
 
 pub put_done : (ms ws : List ℕ) (a n v : ℕ) → n ≡ 0 → put_at ms a n v ≡ ws → ms ≡ ws
 put_done ms ws a n v e h = put_none ms a v ∙ ap (λ (k : ℕ). put_at ms a k v) (sym e) ∙ h
@@ -55,7 +56,7 @@ put_at-low ms a (suc n) v =
     ∙ put_at-low (set ms (a + n) (v % 256)) a n (v / 256)
 
 -- the bytes of a number stand for its low part
-value_at-bytes_of : (n v : ℕ) → value_at (bytes_of n v) 0 n ≡ v % 256 ^ n
+pub value_at-bytes_of : (n v : ℕ) → value_at (bytes_of n v) 0 n ≡ v % 256 ^ n
 unfolding value_at bytes_of
 value_at-bytes_of zero v = omega arith
 value_at-bytes_of (suc n) v =

@@ -13,11 +13,12 @@ pub fn load<M: Memory>(memory: &M, address: u64, width: Width) -> u64
     if address >= LIMIT {
         return 0;
     }
-    let mut value = 0;
+    let first = 8 - width.bytes();
+    let mut bytes = [0u8; 8];
     for i in 0..width.bytes() {
-        value = value << 8 | u64::from(memory.read(address + i));
+        bytes[(first + i) as usize] = memory.read(address + i);
     }
-    value
+    u64::from_be_bytes(bytes)
 }
 
 // Puts the low bytes of the value from the address on, the last byte first; a place that the memory lacks takes nothing.
@@ -27,9 +28,9 @@ pub fn store<M: Memory>(memory: &mut M, address: u64, width: Width, value: u64)
     if address >= LIMIT {
         return;
     }
-    let mut rest = value;
+    let first = 8 - width.bytes();
+    let bytes = value.to_be_bytes();
     for i in (0..width.bytes()).rev() {
-        memory.write(address + i, (rest & 0xff) as u8);
-        rest >>= 8;
+        memory.write(address + i, bytes[(first + i) as usize]);
     }
 }

@@ -1,27 +1,9 @@
-use Rattle.std.proofs.Common.{◌≡◌, ℕ, ◌+◌, ◌*◌, ◌%◌, ◌^◌, ◌<◌, ◌≤◌, List, get_or, bit_or, refl, ap, ◌∙◌, add-one, pow-suc, arith}
-use Rattle.std.proofs.Math.Nat.{pow-le-pow_right}
-use Rattle.std.proofs.lemmas.Nat.{or_shifted}
+use Rattle.std.proofs.Common.{◌≡◌, suc, ◌+◌, ◌-◌, ◌<◌, length, ◌∙◌, add-one, length-set, arith, rules}
 use Rattle.memory.specs.Bytes.{value_at}
 use Rattle.memory.specs.Widths.{width_bytes}
-use Rattle.memory.specs.declared.width.Width.{Width}
-use Rattle.memory.specs.declared.width.Width.TheVariants.{Byte, Short, Long, Qword}
-use Rattle.memory.proofs.Puts.{value_at_past}
+use Rattle.memory.proofs.Digits.{from_be}
+use Rattle.memory.proofs.Puts.{value_at-set, value_at_past}
 use Rattle.memory.proofs.access.load.Goals as goal
-
-eight : (w : Width) → width_bytes w ≤ 8
-eight Byte = omega arith
-eight Short = omega arith
-eight Long = omega arith
-eight Qword = omega arith
-
--- one byte more, below those that are there
-one_more : (bs : List ℕ) (a n v b : ℕ) → n < 8 → b < 256 → b ≡ get_or bs (a + n) 0 → (v ≡ value_at bs a n) × (v < 256 ^ n) → (bit_or (v * 256 % 2 ^ 64) b ≡ value_at bs a (n + 1)) × (bit_or (v * 256 % 2 ^ 64) b < 256 ^ (n + 1))
-unfolding value_at
-one_more bs a n v b few small is h =
-    let l : 256 ^ n ≤ 256 ^ 7 = pow-le-pow_right (omega arith) {i = n} {j = 7} (omega arith) in
-    let fits : v * 256 % 2 ^ 64 ≡ v * 256 = omega (arith, h.1) in
-    let e : bit_or (v * 256 % 2 ^ 64) b ≡ v * 256 + b = ap (λ (x : ℕ). bit_or x b) fits ∙ or_shifted v 8 b small in
-    rw (e, add-one) (omega (arith, h.0), rw (pow-suc 256 n) (omega (arith, h.1)))
 
 pub returns-then-address-ge-LIMIT : goal.returns-then-address-ge-LIMIT
 returns-then-address-ge-LIMIT g c =
@@ -30,8 +12,19 @@ returns-then-address-ge-LIMIT g c =
 
 pub loop-i-init : goal.loop-i-init
 unfolding value_at
-loop-i-init g c = (refl, omega arith)
+loop-i-init g c = search rules
 
 pub loop-i-preserved : goal.loop-i-preserved
-loop-i-preserved g c = one_more _ c.args.address c.loop-i.i _ _
-    (omega (arith, eight c.args.width)) (omega arith) (c.from.ensures ∙ c.read.ensures) c.loop-i.invariant
+loop-i-preserved g c =
+    let bs = c.loop-i.bytes in
+    let m = 8 - c.bytes-first.result + c.loop-i.i in
+    let inside : m < length bs = search rules in
+    let l = length-set bs m c.read.result in
+    let next : 8 - c.bytes-first.result + (c.loop-i.i + 1) ≡ suc m = omega arith in
+    (omega arith, rw (next, add-one) (value_at-set bs _ c.args.address m c.loop-i.i _ inside c.read.ensures c.loop-i.invariant.1))
+
+pub returns : goal.returns
+returns g c =
+    let n : c.loop-i.i ≡ width_bytes c.args.width = omega arith in
+    let all : 8 - c.bytes-first.result + c.loop-i.i ≡ 8 = search rules in
+    c.from_be_bytes.ensures ∙ from_be c.loop-i.bytes ∙ rw (← n, ← all) c.loop-i.invariant.1
