@@ -1,5 +1,6 @@
 // Running instructions: one instruction, and the run of a budget.
 ghost use Rattle.std.specs.Prelude.{◌≡◌, ◌≤◌};
+ghost use Rattle.bank.specs.Registers.{register_index};
 ghost use Rattle.isa.specs.Reading.{decoded};
 ghost use Rattle.isa.specs.Steps.{P, S, held, taking, performed, obeyed, stepped};
 ghost use Rattle.isa.specs.Runs.{ran};
@@ -7,6 +8,7 @@ ghost use Rattle.memory.specs.Widths.{width_bytes};
 ghost use Rattle.numbers.specs.Values.{plus, minus};
 ghost use Rattle.cpu.specs.Configs.{begun};
 ghost use Rattle.cpu.specs.Finishing.{finished};
+ghost use Rattle.cpu.specs.declared.rest.Rest.TheVariants.{Nothing};
 
 use super::rest::Rest;
 use bank::{Bank, Register};
@@ -52,6 +54,15 @@ impl<M: Memory> Processor<'_, '_, '_, M> {
         top
     }
 
+    // Sets a register; nothing is left to do then.
+    fn put(&mut self, register: Register, value: u64) -> Rest
+        ensures left { result ≡ Nothing }
+        ensures next { Reaches self.old self.new (taking (config_of self.old) (register_index register) value) }
+    {
+        self.bank.set(register, value);
+        Rest::Nothing
+    }
+
     // Moves the registers as the effect says; what is left to do of an instruction that was begun at p.
     fn settle(&mut self, p: u64, effect: Effect) -> Rest
         ensures left { finished result (config_of self.new) ≡ performed effect (begun (config_of self.old) p) (config_of self.old) }
@@ -64,18 +75,9 @@ impl<M: Memory> Processor<'_, '_, '_, M> {
                 Rest::Ends(end)
             }
             Effect::Nothing => Rest::Nothing,
-            Effect::Sets(register, value) => {
-                self.bank.set(Register::General(register), value);
-                Rest::Nothing
-            }
-            Effect::Jumps(address) => {
-                self.bank.set(Register::P, address);
-                Rest::Nothing
-            }
-            Effect::Stacks(address) => {
-                self.bank.set(Register::S, address);
-                Rest::Nothing
-            }
+            Effect::Sets(register, value) => self.put(Register::General(register), value),
+            Effect::Jumps(address) => self.put(Register::P, address),
+            Effect::Stacks(address) => self.put(Register::S, address),
             Effect::Loads(register, width, address) => Rest::Loads(
                 Register::General(register),
                 width,
