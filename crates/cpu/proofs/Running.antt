@@ -26,7 +26,7 @@ module _ {M : Type 0} {g : Ghosts M} (first now next : Processor M g) (b c : Con
   reaches_more p q =
       record {
         window = q.window ∙ ap (λ (h : Parts). record h { window = c.window }) p.window;
-        words = q.words;
+        registers = q.registers;
         lent = q.lent ∙ p.lent;
         same_memory = q.same_memory ∙ p.same_memory;
         same_bank = q.same_bank ∙ p.same_bank;
@@ -34,7 +34,7 @@ module _ {M : Type 0} {g : Ghosts M} (first now next : Processor M g) (b c : Con
 
   config_is : Reaches now next c → c ≡ config_of next
   config_is q =
-      λ i. record { window = sym (ap (λ (h : Parts). h.window) q.window) i; registers = sym q.words i }
+      λ i. record { window = sym (ap (λ (h : Parts). h.window) q.window) i; registers = sym q.registers i }
 
 module _ {M : Type 0} {g : Ghosts M} (budget count : ℕ) (first now : Processor M g) (runs : Runs budget count first now) where
   ended : (r : Ran) → ran_on (budget - count) count (config_of now) ≡ r → (last : Processor M g) → Reaches first last r.last → RunsTo budget first r.end r.count last

@@ -6,7 +6,7 @@ ghost use Rattle.window.specs.Views.{replaced, Whole};
 ghost use Rattle.cpu.specs.Configs.{config};
 
 use super::processor::Processor;
-use bank::Bank;
+use bank::{Bank, Register};
 use isa::End;
 use memory::Memory;
 use window::{Extent, Window};
@@ -27,6 +27,13 @@ pub fn run<M: Memory>(
     ensures lent { lender bank.new ≡ lender bank.old }
     ensures within { result.1 ≤ budget }
 {
-    let window = Window { memory, extent };
-    Processor { window, bank }.run(budget)
+    let mut processor = Processor {
+        window: Window { memory, extent },
+        p: bank.get(Register::P),
+        bank,
+    };
+    let ended = processor.run(budget);
+    let p = processor.p;
+    bank.set(Register::P, p);
+    ended
 }

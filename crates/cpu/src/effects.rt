@@ -1,6 +1,6 @@
 // The effect of each operation, in the order of the opcodes.
 ghost use Rattle.std.specs.Option.{option_map_or};
-ghost use Rattle.std.specs.Prelude.{◌≡◌, slice_index};
+ghost use Rattle.std.specs.Prelude.{◌≡◌};
 ghost use Rattle.isa.specs.Effects.{effect_of};
 ghost use Rattle.isa.specs.declared.effect.Effect.TheVariants.{Sets, Faults};
 ghost use Rattle.isa.specs.declared.end.End.TheVariants.{IntegerMath};
@@ -26,7 +26,7 @@ impl<M: Memory> Processor<'_, '_, '_, M> {
     fn general(&self, register: u8) -> u64
         ensures { result ≡ held (config_of self.now) register }
     {
-        self.bank.get(Register::General(register))
+        self.get(Register::General(register))
     }
 
     // One match, since each operation has its own row. A register is read where it is a source.
@@ -115,7 +115,7 @@ impl<M: Memory> Processor<'_, '_, '_, M> {
                 Effect::Nothing
             },
             Operation::Return => Effect::Returns,
-            Operation::GetStack => Effect::Sets(i.r, self.bank.get(Register::S)),
+            Operation::GetStack => Effect::Sets(i.r, self.get(Register::S)),
             Operation::SetStack => Effect::Stacks(self.general(i.r)),
             Operation::Push(n) => Effect::Pushes(n, self.general(i.r)),
             Operation::Pop(n) => Effect::Pops(i.r, n),
@@ -124,11 +124,11 @@ impl<M: Memory> Processor<'_, '_, '_, M> {
             Operation::LoadStack(n) => Effect::Loads(
                 i.r,
                 n,
-                self.bank.get(Register::S).wrapping_sub(i.literal),
+                self.get(Register::S).wrapping_sub(i.literal),
             ),
             Operation::StoreStack(n) => Effect::Stores(
                 n,
-                self.bank.get(Register::S).wrapping_sub(i.literal),
+                self.get(Register::S).wrapping_sub(i.literal),
                 self.general(i.r),
             ),
             Operation::Reverse(n) => Effect::Sets(i.r, numbers::reverse(n, self.general(i.r))),

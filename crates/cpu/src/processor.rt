@@ -22,6 +22,8 @@ use window::Window;
 pub struct Processor<'m, 'b, 'w, M: Memory> {
     pub window: Window<'m, M>,
     pub bank: &'b mut Bank<'w>,
+    // P as it now is: each instruction moves it, so it does not stand in the bank, whose own is stale.
+    pub p: u64,
 }
 
 impl<M: Memory> Processor<'_, '_, '_, M> {
@@ -31,7 +33,25 @@ impl<M: Memory> Processor<'_, '_, '_, M> {
     pub fn read(&self) -> Instruction
         ensures { result ≡ decoded (config_of self.now).window (held (config_of self.now) P) }
     {
-        self.window.instruction(self.bank.get(Register::P))
+        self.window.instruction(self.get(Register::P))
+    }
+
+    pub(crate) fn get(&self, register: Register) -> u64
+        ensures { result ≡ held (config_of self.now) (register_index register) }
+    {
+        match register {
+            Register::P => self.p,
+            _ => self.bank.get(register),
+        }
+    }
+
+    fn set(&mut self, register: Register, value: u64)
+        ensures { Reaches self.old self.new (taking (config_of self.old) (register_index register) value) }
+    {
+        match register {
+            Register::P => self.p = value,
+            _ => self.bank.set(register, value),
+        }
     }
 
     // Moves S up; where it stood.
@@ -39,8 +59,8 @@ impl<M: Memory> Processor<'_, '_, '_, M> {
         ensures top { result ≡ held (config_of self.old) S }
         ensures next { Reaches self.old self.new (taking (config_of self.old) S (plus (held (config_of self.old) S) (width_bytes width))) }
     {
-        let top = self.bank.get(Register::S);
-        self.bank.set(Register::S, top.wrapping_add(width.bytes()));
+        let top = self.get(Register::S);
+        self.set(Register::S, top.wrapping_add(width.bytes()));
         top
     }
 
@@ -49,8 +69,8 @@ impl<M: Memory> Processor<'_, '_, '_, M> {
         ensures top { result ≡ minus (held (config_of self.old) S) (width_bytes width) }
         ensures next { Reaches self.old self.new (taking (config_of self.old) S (minus (held (config_of self.old) S) (width_bytes width))) }
     {
-        let top = self.bank.get(Register::S).wrapping_sub(width.bytes());
-        self.bank.set(Register::S, top);
+        let top = self.get(Register::S).wrapping_sub(width.bytes());
+        self.set(Register::S, top);
         top
     }
 
@@ -59,7 +79,7 @@ impl<M: Memory> Processor<'_, '_, '_, M> {
         ensures left { result ≡ Nothing }
         ensures next { Reaches self.old self.new (taking (config_of self.old) (register_index register) value) }
     {
-        self.bank.set(register, value);
+        self.set(register, value);
         Rest::Nothing
     }
 
@@ -71,7 +91,7 @@ impl<M: Memory> Processor<'_, '_, '_, M> {
         match effect {
             Effect::Ends(end) => Rest::Ends(end),
             Effect::Faults(end) => {
-                self.bank.set(Register::P, p);
+                self.set(Register::P, p);
                 Rest::Ends(end)
             }
             Effect::Nothing => Rest::Nothing,
@@ -91,9 +111,9 @@ impl<M: Memory> Processor<'_, '_, '_, M> {
                 self.pop(width),
             ),
             Effect::Calls(address) => {
-                let back = self.bank.get(Register::P);
+                let back = self.get(Register::P);
                 let top = self.push(Width::Qword);
-                self.bank.set(Register::P, address);
+                self.set(Register::P, address);
                 Rest::Stores(Width::Qword, top, back)
             }
             Effect::Returns => Rest::Loads(Register::P, Width::Qword, self.pop(Width::Qword)),
@@ -110,7 +130,7 @@ impl<M: Memory> Processor<'_, '_, '_, M> {
             Rest::Nothing => {}
             Rest::Loads(register, width, address) => {
                 let value = self.window.view().load(width, address);
-                self.bank.set(register, value);
+                self.set(register, value);
             }
             Rest::Stores(width, address, value) => self.window.store(width, address, value),
         }
@@ -123,9 +143,8 @@ impl<M: Memory> Processor<'_, '_, '_, M> {
         ensures end { result ≡ (obeyed (config_of self.old) instruction).end }
         ensures next { Reaches self.old self.new (obeyed (config_of self.old) instruction).next }
     {
-        let p = self.bank.get(Register::P);
-        self.bank
-            .set(Register::P, p.wrapping_add(u64::from(instruction.length)));
+        let p = self.get(Register::P);
+        self.set(Register::P, p.wrapping_add(u64::from(instruction.length)));
         let effect = self.weigh(instruction.operation, instruction.operands);
         let rest = self.settle(p, effect);
         self.finish(rest)

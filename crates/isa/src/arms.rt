@@ -1,5 +1,5 @@
-// Reading an instruction with an arm for each opcode. In its arm the compiler knows the row of the table, so that reading the
-// operands and performing the operation become one jump.
+// Reading an instruction with an arm for each opcode. In its arm the compiler knows the row of the table, so that one jump
+// leads to the operands and to the operation; loads and stores alone choose once more, by their width.
 ghost use Rattle.std.specs.Prelude.{◌≡◌};
 ghost use Rattle.isa.specs.Opcodes.{entry_of};
 ghost use Rattle.isa.specs.Reading.{decoded, instruction_of};

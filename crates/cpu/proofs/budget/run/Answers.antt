@@ -1,9 +1,10 @@
 use Rattle.std.proofs.Common.{List, ℕ, length, ap, ◌∙◌, rules}
+use Rattle.std.proofs.lemmas.List.{set-get_or}
 use Rattle.window.proofs.Seeing.{bytes_replaced, length_replaced}
 use Rattle.cpu.proofs.budget.run.Goals as goal
 
 pub returns-clause-bytes : goal.returns-clause-bytes
-returns-clause-bytes g c = search (rules, bytes_replaced)
+returns-clause-bytes g c = search (rules, bytes_replaced, set-get_or)
 
 pub returns-clause-size : goal.returns-clause-size
 returns-clause-size g c =
