@@ -1,10 +1,10 @@
 -- The answer of each call, as its result says it.
-use Rattle.std.specs.Prelude.{ℕ, List, Ok, Err, Result}
+use Rattle.std.specs.Prelude.{ℕ, List, Ok, Err, Option, Result}
 use Rattle.isa.specs.Ends.{end_code}
 use Rattle.machine.specs.declared.ended.RunEnd.{RunEnd}
 use Rattle.machine.specs.Refusals.{refusal_number}
 use Rattle.machine.specs.declared.refusal.Refusal.{Refusal}
-use Rattle.machine.specs.Calls.{Answer, Refused, Done, Filled, Word, Ended}
+use Rattle.machine.specs.Calls.{Answer, Refused, Done, Filled, Word, Ended, Latest}
 
 abbrev pub done_answer : Result (Unit {0}) Refusal → Answer
 done_answer (Ok _) = Done
@@ -21,3 +21,7 @@ word_answer (Err e) = Refused (refusal_number e)
 abbrev pub ended_answer : Result RunEnd Refusal → Answer
 ended_answer (Ok e) = Ended (end_code e.end) e.count
 ended_answer (Err e) = Refused (refusal_number e)
+
+abbrev pub latest_answer : Result (Option (ℕ × ℕ)) Refusal → Answer
+latest_answer (Ok o) = Latest o
+latest_answer (Err e) = Refused (refusal_number e)

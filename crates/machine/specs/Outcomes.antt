@@ -1,5 +1,5 @@
 -- What a call answers and the state that it leads to, by the row of the compartment that it names alone.
-use Rattle.std.specs.Prelude.{◌≡◌, ℕ, ◌+◌, ◌*◌, cond, List, length, take, drop, Some, None, Ok, Err, Option, Result, ◌==◌, nat_lt, slice_set}
+use Rattle.std.specs.Prelude.{◌≡◌, ℕ, ◌+◌, ◌*◌, cond, List, length, take, drop, Some, None, Ok, Err, Option, Result, ◌==◌, nat_lt, slice_index_or, slice_set}
 use Rattle.std.proofs.lemmas.List.Edits.{sets}
 use Rattle.memory.specs.Bytes.{value_at, put_at}
 use Rattle.isa.specs.Compartments.{Ended, compartment_ran}
@@ -8,7 +8,7 @@ use Rattle.machine.specs.Refusals.{refusal_number}
 use Rattle.machine.specs.declared.refusal.Refusal.{Refusal}
 use Rattle.machine.specs.declared.refusal.Refusal.TheVariants as refusal
 use Rattle.machine.specs.States.{State, row_of}
-use Rattle.machine.specs.Calls.{Call, Put, Fetch, Set, Get, Run, Answer, Refused, Done, Filled, Word, Ended as EndedWith, named}
+use Rattle.machine.specs.Calls.{Call, Put, Fetch, Set, Get, Run, Last, Answer, Refused, Done, Filled, Word, Ended as EndedWith, Latest, named}
 
 -- The n bytes from an address on.
 abbrev pub part : List ℕ → ℕ → ℕ → List ℕ
@@ -22,6 +22,7 @@ ground long (Set k i w) = cond (nat_lt 257 i) (Some refusal.Index) None
 ground long (Get k i) = cond (nat_lt 257 i) (Some refusal.Index) None
 ground long (Run k budget work) =
     cond (nat_lt 1000000 budget) (Some refusal.Budget) (cond (work == 258) None (Some refusal.Work))
+ground long (Last k) = None
 
 -- The row of compartment k, or the refusal of every call that names it.
 abbrev pub row_or : Option Row → Result Row Refusal
@@ -67,6 +68,7 @@ accepted s r (Set k i w) = (Done, holding s (put_at s.held (r.file + 8 * i) 8 w)
 accepted s r (Get k i) = (Word (value_at s.held (r.file + 8 * i) 8), s)
 accepted s r (Run k budget work) =
     (EndedWith (run_of s r budget).code (run_of s r budget).count, recording s r k (run_of s r budget))
+accepted s r (Last k) = (Latest (slice_index_or s.latest k None), s)
 
 abbrev pub by_grant : State → Call → Result Row Refusal → Answer × State
 by_grant s c (Err e) = (Refused (refusal_number e), s)

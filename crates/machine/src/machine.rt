@@ -1,8 +1,8 @@
 // A machine owns its memory. Each call names a compartment, and its contract says that its answer and the state at its
 // exit are the outcome of the state at its entry.
 ghost use Rattle.std.specs.Prelude.{◌≡◌, ℕ, ◌+◌, ◌≤◌, true, List, length as size, replicate, is_ok, is_err, IfOk};
-ghost use Rattle.machine.specs.Answers.{done_answer, ended_answer, filled_answer, word_answer};
-ghost use Rattle.machine.specs.Calls.{Put, Fetch, Set, Get, Run};
+ghost use Rattle.machine.specs.Answers.{done_answer, ended_answer, filled_answer, latest_answer, word_answer};
+ghost use Rattle.machine.specs.Calls.{Put, Fetch, Set, Get, Run, Last};
 ghost use Rattle.machine.specs.Outcomes.{Outcome, admission, grant};
 ghost use Rattle.machine.specs.Inside.{Inside};
 ghost use Rattle.machine.specs.Machines.{state, opening};
@@ -154,5 +154,13 @@ impl<M: Memory> Machine<M> {
         );
         self.runs.record(k, u8::from(end), count);
         Ok(RunEnd { end, count })
+    }
+
+    // The error code and the count of compartment k's latest accepted run, or nothing before the first.
+    pub fn last(&self, k: u16) -> Result<Option<(u8, u64)>, Refusal>
+        ensures { Outcome (Last k) (state M.Memory.bytes self.now) (latest_answer result) (state M.Memory.bytes self.now) }
+    {
+        self.admit(k)?;
+        Ok(self.runs.latest(k))
     }
 }

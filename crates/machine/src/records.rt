@@ -1,6 +1,6 @@
 // The record of each compartment's latest run: its error code and its count, the plain numbers that a caller asks for. An
 // array, so that a machine needs no heap.
-ghost use Rattle.std.specs.Prelude.{◌≡◌, ◌<◌, replicate, Some as Kept, None as Empty, slice_set};
+ghost use Rattle.std.specs.Prelude.{◌≡◌, ◌<◌, replicate, Some as Kept, None as Empty, slice_index_or, slice_set};
 
 #[derive(Drop)]
 pub struct Runs {
@@ -20,5 +20,13 @@ impl Runs {
         ensures { self.new.latest ≡ slice_set self.old.latest k (Kept (code, count)) }
     {
         self.latest[k as usize] = Some((code, count));
+    }
+
+    // The latest run of compartment k, where it has run.
+    pub(crate) fn latest(&self, k: u16) -> Option<(u8, u64)>
+        requires { k < 16 }
+        ensures { result ≡ slice_index_or self.now.latest k Empty }
+    {
+        self.latest[k as usize]
     }
 }
