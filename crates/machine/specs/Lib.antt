@@ -5,3 +5,4 @@ pub mod Outcomes
 pub mod Answers
 pub mod Inside
 pub mod Machines
+pub mod Separation

@@ -6,6 +6,7 @@ ghost use Rattle.machine.specs.Calls.{Put, Fetch, Set, Get, Run, Last};
 ghost use Rattle.machine.specs.Outcomes.{Outcome, admission, grant};
 ghost use Rattle.machine.specs.Inside.{Inside};
 ghost use Rattle.machine.specs.Machines.{state, opening};
+ghost use Rattle.machine.specs.Separation.{KeptApart};
 
 use super::blocks::{read_all, write_all};
 use super::ended::RunEnd;
@@ -24,9 +25,10 @@ pub struct Machine<M> {
 }
 
 impl<M: Memory> Machine<M> {
-    // The memory as it is, this plan, and no run on record.
+    // The memory as it is, this plan, and no run on record. From here on the compartments are kept apart.
     pub fn make(memory: M, plan: Plan) -> Machine<M>
-        ensures { state M.Memory.bytes result ≡ opening (M.Memory.bytes memory) plan }
+        ensures opening { state M.Memory.bytes result ≡ opening (M.Memory.bytes memory) plan }
+        ensures apart { KeptApart (state M.Memory.bytes result) }
     {
         Machine {
             memory,
