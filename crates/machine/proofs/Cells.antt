@@ -1,16 +1,15 @@
 -- A compartment by itself: what each call that names it does to its own bytes and record.
-use Rattle.std.proofs.Common.{◌≡◌, ℕ, ◌+◌, ◌*◌, ◌<◌, ◌≤◌, Bool, cond, ltb, List, length, get_or, set, Some, None, Ok, Err, Option, Result, refl, sym, ap, ◌∙◌, subst, inl, inr, arith}
+use Rattle.std.proofs.Common.{◌≡◌, ℕ, ◌+◌, ◌*◌, ◌<◌, ◌≤◌, ltb, List, length, get_or, Some, None, Err, Option, Result, refl, sym, ap, ◌∙◌, inl, inr, arith}
 use Rattle.std.proofs.lemmas.Bool.{le-ltb, cond-false}
 use Rattle.std.proofs.lemmas.List.{get_or-set_same}
 use Rattle.std.proofs.lemmas.List.Edits.{sets}
 use Rattle.std.proofs.lemmas.Option.{slice_get_within}
 use Rattle.std.proofs.Math.Seq.{length-sets}
-use Rattle.memory.specs.Bytes.{value_at, put_at, bytes_of as number_bytes}
+use Rattle.memory.specs.Bytes.{value_at, bytes_of as number_bytes}
 use Rattle.memory.specs.Elements.{length-bytes_of}
 use Rattle.window.proofs.Seeing.{value_at-part}
 use Rattle.isa.specs.Compartments.{Ended, compartment_ran}
 use Rattle.runs.proofs.Files.{files_keep_lem}
-use Rattle.plan.specs.Areas.{Within}
 use Rattle.plan.specs.Plans.{rows_of}
 use Rattle.plan.specs.declared.plan.Plan.{Plan}
 use Rattle.plan.specs.declared.row.Row.{Row}
@@ -23,7 +22,7 @@ use Rattle.machine.specs.Separation.{Roomy, OnlyChanges}
 use Rattle.machine.specs.declared.refusal.Refusal.{Refusal}
 use Rattle.machine.specs.declared.refusal.Refusal.TheVariants as refusal
 use Rattle.machine.proofs.Pieces.{sets_out, length_part, part_same, part_inside, part_whole, part_part}
-use Rattle.machine.proofs.Keeping.{Room, room, Held, held_row, qword_sets, Keeps, keeps}
+use Rattle.machine.proofs.Keeping.{Room, room, held_row, qword_sets, keeps}
 
 pub record Cell : Type 0 where
   pub long : ℕ
@@ -160,8 +159,8 @@ own s c g =
     let t = (outcome s c).1 in (
       ap (λ (z : Answer × State). z.0) here ∙ mine.0,
       ap (λ (p : Plan). cell_by t (named c) (row_of p (named c))) (keeps s c).only.same_plan
-      ∙ ap (λ (z : Answer × State). cell_by z.1 (named c) o) here
-      ∙ mine.1,
+          ∙ ap (λ (z : Answer × State). cell_by z.1 (named c) o) here
+          ∙ mine.1,
     )
 
 -- and every other compartment as it was

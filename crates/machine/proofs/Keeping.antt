@@ -1,5 +1,5 @@
 -- What any one call leaves as it was: the plan, the lengths, and every byte and record of the compartments that it does not name.
-use Rattle.std.proofs.Common.{◌≡◌, ℕ, ◌+◌, ◌*◌, ◌<◌, ◌≤◌, Bool, true, false, cond, ltb, eqb, List, ◌++◌, append_assoc, take, drop, length, get_or, set, Some, None, Ok, Err, Option, Result, refl, sym, ap, ◌∙◌, inl, inr, arith, length-set}
+use Rattle.std.proofs.Common.{◌≡◌, ℕ, ◌+◌, ◌*◌, ◌≤◌, Bool, true, false, cond, ltb, List, ◌++◌, append_assoc, take, drop, length, get_or, Some, None, Err, Option, Result, refl, sym, ap, ◌∙◌, inl, inr, arith, length-set}
 use Rattle.std.proofs.lemmas.List.{get_or-set_other}
 use Rattle.std.proofs.lemmas.List.Edits.{sets, sets-eq}
 use Rattle.std.proofs.lemmas.Bool.{ltb-false, cond_both}
@@ -7,15 +7,13 @@ use Rattle.std.proofs.Math.Seq.{length-sets}
 use Rattle.memory.specs.Bytes.{put_at, bytes_of as number_bytes}
 use Rattle.memory.specs.Elements.{length-bytes_of}
 use Rattle.memory.proofs.Puts.{put_at_parts}
-use Rattle.isa.specs.Compartments.{compartment_ran}
 use Rattle.runs.proofs.Files.{files_keep_lem}
 use Rattle.plan.proofs.Found.{sound}
-use Rattle.plan.specs.declared.plan.Plan.{Plan}
 use Rattle.plan.specs.declared.row.Row.{Row}
 use Rattle.machine.specs.States.{State, row_of}
-use Rattle.machine.specs.Calls.{Call, Put, Fetch, Set, Get, Run, Last, Answer, named}
-use Rattle.machine.specs.Outcomes.{part, ground, row_or, row_unless, grant_at, by_grant, admission, run_of, accepted, outcome}
-use Rattle.machine.specs.Separation.{Roomy, HasByte, OnlyChanges}
+use Rattle.machine.specs.Calls.{Call, Put, Fetch, Set, Get, Run, Last, named}
+use Rattle.machine.specs.Outcomes.{part, ground, row_or, row_unless, grant_at, by_grant, run_of, accepted, outcome}
+use Rattle.machine.specs.Separation.{Roomy, OnlyChanges}
 use Rattle.machine.specs.declared.refusal.Refusal.{Refusal}
 use Rattle.machine.specs.declared.refusal.Refusal.TheVariants as refusal
 use Rattle.machine.proofs.Pieces.{sets_out, length_part, part_short}

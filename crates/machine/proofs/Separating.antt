@@ -1,5 +1,5 @@
 -- A machine straight from its making keeps its compartments apart.
-use Rattle.std.proofs.Common.{◌≡◌, ℕ, ◌+◌, ◌≤◌, Bool, true, false, cond, eqb, List, [], ◌∷◌, ◌++◌, length, map, get_or, take, drop, take_at, drop_at, Some, None, Option, refl, sym, ap, ◌∙◌, subst, arith}
+use Rattle.std.proofs.Common.{◌≡◌, ℕ, ◌+◌, Bool, true, false, cond, eqb, List, [], ◌∷◌, ◌++◌, length, get_or, take, drop, take_at, drop_at, Some, None, Option, refl, sym, ap, ◌∙◌, subst, arith}
 use Rattle.std.proofs.lemmas.Bool.{eqb-true, eqb-false}
 use Rattle.plan.specs.declared.plan.Plan.{Plan}
 use Rattle.plan.specs.declared.row.Row.{Row}
@@ -7,9 +7,9 @@ use Rattle.machine.specs.States.{State, row_of}
 use Rattle.machine.specs.Calls.{Call, Answer, named}
 use Rattle.machine.specs.Outcomes.{Outcome, part, outcome}
 use Rattle.machine.specs.Machines.{opening}
-use Rattle.machine.specs.Separation.{row_length, row_saved, row_bytes, bytes_of, Alike, Roomy, Event, Session, calls, answers, naming, Separated, OnlyChanges, Confined, KeptApart}
+use Rattle.machine.specs.Separation.{row_length, row_saved, row_bytes, Roomy, Event, Session, calls, answers, naming, Separated, OnlyChanges, Confined, KeptApart}
 use Rattle.machine.proofs.Pieces.{length_part}
-use Rattle.machine.proofs.Keeping.{held_row, Keeps, keeps}
+use Rattle.machine.proofs.Keeping.{held_row, keeps}
 use Rattle.machine.proofs.Cells.{Cell, cell, cell_by, alone, Good, good_after, own, other}
 
 -- the calls of one compartment, by itself
@@ -85,8 +85,8 @@ separated held p held' p' k es fs s' t' hs ht rs rt like same =
     let two = follows k fs t t' (record { roomy = rt; sixteen = refl }) ht in (
       one.0 ∙ (λ i. alone_answers (start i) (same i)) ∙ sym two.0,
       bytes_rows k s' (row_of s'.plan k)
-      ∙ ap cell_bytes (one.1 ∙ (λ i. alone_end (start i) (same i)) ∙ sym two.1)
-      ∙ sym (bytes_rows k t' (row_of t'.plan k)),
+          ∙ ap cell_bytes (one.1 ∙ (λ i. alone_end (start i) (same i)) ∙ sym two.1)
+          ∙ sym (bytes_rows k t' (row_of t'.plan k)),
     )
 
 confined : (s : State) → Confined s

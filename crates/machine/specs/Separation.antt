@@ -1,5 +1,5 @@
 -- Lists of calls on a machine straight from its making, and what keeps its compartments apart.
-use Rattle.std.specs.Prelude.{◌≡◌, ℕ, ◌+◌, ◌≤◌, ◌⊎◌, ◌≢◌, List, [], ◌∷◌, ◌++◌, length, map, Some, None, Option, ◌==◌, slice_index, slice_index_or}
+use Rattle.std.specs.Prelude.{◌≡◌, ℕ, ◌+◌, ◌≤◌, ◌≢◌, List, [], ◌∷◌, ◌++◌, length, map, Some, None, Option, ◌==◌, slice_index, slice_index_or}
 use Rattle.std.specs.List.{filter}
 use Rattle.plan.specs.Areas.{Owns}
 use Rattle.plan.specs.declared.plan.Plan.{Plan}
