@@ -1,5 +1,5 @@
 -- The text of an answer, and the line of output that a line of a script gives.
-use Rattle.std.specs.Prelude.{ℕ, ◌+◌, ◌/◌, ◌%◌, cond, List, [], ◌∷◌, ◌++◌, vec_items, codes, decimal, nat_lt, Some, None, Option}
+use Rattle.std.specs.Prelude.{ℕ, ◌+◌, ◌/◌, ◌%◌, cond, List, [], ◌∷◌, ◌++◌, Some, None, vec_items, codes, decimal, nat_lt, Option}
 use Rattle.plan.specs.Grounds.{ground_number}
 use Rattle.isa.specs.Ends.{end_code}
 use Rattle.machine.specs.Refusals.{refusal_number}
