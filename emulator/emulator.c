@@ -28,6 +28,12 @@ struct plan {
     uint64_t laid;
 };
 
+/* How a run ended. */
+struct result {
+    unsigned code;
+    uint64_t count;
+};
+
 /* All that a script has at one time. The machine is only a mark: while it stands, the script cannot change its memory
    or its plan. */
 struct session {
@@ -38,6 +44,9 @@ struct session {
     struct row *given;
     size_t given_count, given_room;
     bool machine;
+    /* Of each compartment of the machine: whether it has run, and how its latest accepted run ended. */
+    bool ran[ROWS_LIMIT];
+    struct result latest[ROWS_LIMIT];
 };
 
 struct text {
@@ -225,11 +234,6 @@ static const uint8_t *gathered(const uint8_t *window, uint64_t length, uint64_t 
     }
     return parts;
 }
-
-struct result {
-    unsigned code;
-    uint64_t count;
-};
 
 /* Runs at most budget instructions. entries are the 256 general registers, P and S. In each case the operands are read
    before anything is stored, because a store may hit the instruction's own bytes. */
@@ -906,6 +910,12 @@ static void answer_accepted_or(const struct line *line, unsigned refusal)
         answer_refused(line, refusal);
 }
 
+static void answer_result(const struct line *line, struct result result)
+{
+    echo(line);
+    printf("code %u count %" PRIu64 "\n", result.code, result.count);
+}
+
 /* --- Commands. Each reads its line whole, and then performs it. */
 
 /* flat bytes and then numbers of eight bytes each: what all three makes have in common. */
@@ -1000,6 +1010,7 @@ static void do_make(struct session *session, struct line *line)
     if (!session->memory)
         stop(line, "", "there is no memory", NULL);
     session->machine = true;
+    memset(session->ran, 0, sizeof session->ran);
     answer(line, "made");
 }
 
@@ -1090,9 +1101,23 @@ static void do_run(struct session *session, struct line *line)
         answer_refused(line, refusal);
         return;
     }
-    struct result result = run_compartment(session, k, budget);
-    echo(line);
-    printf("code %u count %" PRIu64 "\n", result.code, result.count);
+    session->latest[k] = run_compartment(session, k, budget);
+    session->ran[k] = true;
+    answer_result(line, session->latest[k]);
+}
+
+static void do_last(struct session *session, struct line *line)
+{
+    uint64_t k = compartment_operand(line);
+    end_of(line);
+    need_machine(session, line);
+    unsigned refusal = compartment_refusal(session, k);
+    if (refusal != 0)
+        answer_refused(line, refusal);
+    else if (session->ran[k])
+        answer_result(line, session->latest[k]);
+    else
+        answer(line, "none");
 }
 
 static void perform(struct session *session, struct line *line)
@@ -1118,6 +1143,8 @@ static void perform(struct session *session, struct line *line)
         do_get(session, line);
     else if (is(command, "run"))
         do_run(session, line);
+    else if (is(command, "last"))
+        do_last(session, line);
     else if (is(command, "release"))
         do_release(session, line);
     else

@@ -563,6 +563,19 @@ static uint64_t some_budget(void)
     }
 }
 
+/* Always decimal: that takes nothing from chance, so a seed gives the same runs with these lines as without them. */
+static void last_line(uint64_t k)
+{
+    printf("last %" PRIu64 "\n", k);
+}
+
+/* Of each compartment, and of the number behind the last row's. */
+static void last_lines(unsigned count)
+{
+    for (unsigned k = 0; k <= count; k++)
+        last_line(k);
+}
+
 static void run_line(const struct compartment *c, uint64_t k)
 {
     uint64_t budget = some_budget();
@@ -626,6 +639,8 @@ static void refused_call(const struct compartment *cs, unsigned count)
         break;
     }
     show(&cs[good], good);
+    last_line(k);
+    last_line(good);
 }
 
 /* --- Sessions. */
@@ -634,6 +649,7 @@ static void machine_lines(struct compartment *cs, unsigned count, unsigned calls
 {
     for (unsigned k = 0; k < count; k++)
         fill(&cs[k], k);
+    last_lines(count);
     for (unsigned i = 0; i < calls; i++) {
         uint64_t k = below(count);
         if (once_in(6))
@@ -650,6 +666,7 @@ static void machine_lines(struct compartment *cs, unsigned count, unsigned calls
             stepping_lines(&cs[k], k);
         else
             run_line(&cs[k], k);
+        last_lines(count);
     }
 }
 
@@ -676,7 +693,9 @@ static void session(uint64_t i)
     /* The bytes stay where they are from one machine to the next. */
     if (once_in(6)) {
         puts("make");
+        last_lines(count);
         run_line(&cs[0], 0);
+        last_lines(count);
         puts("release");
     }
 }
@@ -687,6 +706,7 @@ static void stopping_line(void)
     static const char *const lines[] = {
         "run", "run 0", "run k 1", "run 65536 1", "run 0 -1", "run 0 18446744073709551616", "run 0 1 all",
         "run 0 1 18446744073709551616", "run 0 1 258 1", "run 0 1", "run 0 1 0", "get 0 256", "put 0 0 0", "release",
+        "last", "last k", "last 65536", "last 0 1", "last 0",
     };
     puts(PICK(lines));
 }

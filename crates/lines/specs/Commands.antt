@@ -47,6 +47,7 @@ Behind first.Set ws c = (k i w : ℕ) × (c ≡ command.Set k i w) × Filled (K 
 Behind first.Fetch ws c = (k a n : ℕ) × (c ≡ command.Fetch k a n) × Filled (K ∷ Address ∷ Length ∷ []) ws (k ∷ a ∷ n ∷ [])
 Behind first.Get ws c = (k i : ℕ) × (c ≡ command.Get k i) × Filled (K ∷ Index ∷ []) ws (k ∷ i ∷ [])
 Behind first.Run ws c = (k b n : ℕ) × (c ≡ command.Run k b n) × CallOperands Budget (λ vs. FilledOr Work 258 vs n) ws k b
+Behind first.Last ws c = (k : ℕ) × (c ≡ command.Last k) × Filled (K ∷ []) ws (k ∷ [])
 Behind first.Release ws c = (c ≡ command.Release) × (ws ≡ [])
 
 -- What reading the words behind the name of a command answers.

@@ -3,7 +3,7 @@ use Rattle.std.specs.Prelude.{◌≡◌, ◌≢◌, ℕ, List, Result, codes, Ma
 use Rattle.std.specs.Borrow.{Bor}
 use Rattle.lines.specs.declared.fault.Fault.{Fault}
 use Rattle.lines.specs.declared.keyword.CommandWord.{CommandWord}
-use Rattle.lines.specs.declared.keyword.CommandWord.TheVariants.{Memory, Row, Lay, Make, Put, Set, Fetch, Get, Run, Release}
+use Rattle.lines.specs.declared.keyword.CommandWord.TheVariants.{Memory, Row, Lay, Make, Put, Set, Fetch, Get, Run, Last, Release}
 use Rattle.lines.specs.declared.keyword.MakeWord.{MakeWord}
 use Rattle.lines.specs.declared.keyword.MakeWord.TheVariants.{Flat, Words, Spliced}
 
@@ -17,6 +17,7 @@ command_text Set = codes "set"
 command_text Fetch = codes "fetch"
 command_text Get = codes "get"
 command_text Run = codes "run"
+command_text Last = codes "last"
 command_text Release = codes "release"
 
 abbrev pub make_text : MakeWord → List ℕ

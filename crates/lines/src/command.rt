@@ -22,5 +22,6 @@ pub enum Command<'a> {
     Fetch(u16, u64, u64),
     Get(u16, u64),
     Run(u16, u64, u64),
+    Last(u16),
     Release,
 }

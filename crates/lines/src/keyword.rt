@@ -15,6 +15,7 @@ pub(crate) enum CommandWord {
     Fetch,
     Get,
     Run,
+    Last,
     Release,
 }
 
@@ -34,6 +35,7 @@ impl<'a> TryFrom<&'a [u8]> for CommandWord {
             b"fetch" => Ok(CommandWord::Fetch),
             b"get" => Ok(CommandWord::Get),
             b"run" => Ok(CommandWord::Run),
+            b"last" => Ok(CommandWord::Last),
             b"release" => Ok(CommandWord::Release),
             _ => Err(Fault::NoSuchCommand(word)),
         }

@@ -109,6 +109,10 @@ fn read_rest<'a>(words: &mut Scanner<'a>, word: CommandWord) -> Result<Command<'
             Ok(Command::Get(k as u16, index))
         }
         CommandWord::Run => read_run(words),
+        CommandWord::Last => {
+            let [k] = numbers(words, [Operand::K])?;
+            Ok(Command::Last(k as u16))
+        }
         CommandWord::Release => {
             end(words)?;
             Ok(Command::Release)

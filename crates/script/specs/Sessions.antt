@@ -3,8 +3,8 @@ use Rattle.std.specs.Prelude.{◌≡◌, ℕ, ◌⊎◌, List, [], ◌∷◌, �
 use Rattle.std.specs.declared.alloc.Global.{Global}
 use Rattle.lines.specs.Hexadecimal.{hex_bytes}
 use Rattle.lines.specs.declared.command.Command.{Command}
-use Rattle.lines.specs.declared.command.Command.TheVariants.{Memory, Row, Lay, Make, Put, Set, Fetch, Get, Run, Release}
-use Rattle.machine.specs.Answers.{done_answer, ended_answer, filled_answer, word_answer}
+use Rattle.lines.specs.declared.command.Command.TheVariants.{Memory, Row, Lay, Make, Put, Set, Fetch, Get, Run, Last, Release}
+use Rattle.machine.specs.Answers.{done_answer, ended_answer, filled_answer, latest_answer, word_answer}
 use Rattle.machine.specs.Calls as calls
 use Rattle.machine.specs.Machines.{opening}
 use Rattle.machine.specs.Outcomes.{Outcome}
@@ -63,6 +63,10 @@ word_text (Err e) = answer.Refused e
 abbrev pub ended_text : Result RunEnd Refusal → Answer
 ended_text (Ok e) = answer.Ended e
 ended_text (Err e) = answer.Refused e
+
+abbrev pub latest_text : Result (Option (ℕ × ℕ)) Refusal → Answer
+latest_text (Ok o) = answer.Latest o
+latest_text (Err e) = answer.Refused e
 
 -- A command, the session before, the answer, the session after.
 abbrev pub Performs : Command → Session → Answer → Session → Type 0
@@ -123,6 +127,12 @@ Performs (Run k budget work) s a t =
     × Outcome (calls.Run k budget work) (machine_state m) (ended_answer r) (machine_state n)
     × (a ≡ ended_text r)
     × Beside s t
+Performs (Last k) s a t =
+    (m : AnyMachine) × (r : Result (Option (ℕ × ℕ)) Refusal)
+    × (s.stage ≡ stage.Made m)
+    × Outcome (calls.Last k) (machine_state m) (latest_answer r) (machine_state m)
+    × (a ≡ latest_text r)
+    × Same s t
 Performs Release s a t =
     (m : AnyMachine) × (store : Store)
     × (s.stage ≡ stage.Made m)
@@ -164,6 +174,7 @@ trouble_of (Set k i w) g = needs_machine g
 trouble_of (Fetch k b n) g = needs_machine g
 trouble_of (Get k i) g = needs_machine g
 trouble_of (Run k budget work) g = needs_machine g
+trouble_of (Last k) g = needs_machine g
 trouble_of Release g = needs_machine g
 
 -- Only these make something that may find no room: a memory, a row, and the bytes of a put and a fetch.
@@ -177,6 +188,7 @@ NeedsRoom (Set k i w) = ⊥
 NeedsRoom (Fetch k b n) = Unit {0}
 NeedsRoom (Get k i) = ⊥
 NeedsRoom (Run k budget work) = ⊥
+NeedsRoom (Last k) = ⊥
 NeedsRoom Release = ⊥
 
 -- Why a command is not performed at a stage.

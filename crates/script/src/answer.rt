@@ -18,6 +18,7 @@ pub enum Answer {
     Fetched(Vec<u8>),
     Word(u64),
     Ended(RunEnd),
+    Latest(Option<(u8, u64)>),
     Released,
 }
 
@@ -58,6 +59,8 @@ impl fmt::Display for Answer {
             Answer::Fetched(bytes) => write!(f, "{}", Hex(bytes.as_slice())),
             Answer::Word(w) => write!(f, "{w}"),
             Answer::Ended(e) => write!(f, "code {} count {}", u8::from(e.end), e.count),
+            Answer::Latest(None) => write!(f, "none"),
+            Answer::Latest(Some((code, count))) => write!(f, "code {code} count {count}"),
             Answer::Released => write!(f, "released"),
         }
     }

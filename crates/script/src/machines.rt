@@ -1,7 +1,7 @@
 // A machine over the memory of a script, of whichever make it is.
 ghost use Rattle.std.specs.Prelude.{◌≡◌, ℕ, true, List, length, is_err};
-ghost use Rattle.machine.specs.Answers.{done_answer, ended_answer, filled_answer, word_answer};
-ghost use Rattle.machine.specs.Calls.{Put, Fetch, Set, Get, Run};
+ghost use Rattle.machine.specs.Answers.{done_answer, ended_answer, filled_answer, latest_answer, word_answer};
+ghost use Rattle.machine.specs.Calls.{Put, Fetch, Set, Get, Run, Last};
 ghost use Rattle.machine.specs.Machines.{opening};
 ghost use Rattle.machine.specs.Outcomes.{Outcome};
 ghost use Rattle.script.specs.Stores.{store_bytes, machine_state};
@@ -70,5 +70,11 @@ impl AnyMachine {
     {
         let length = if work == 258 { 258 } else { 0 };
         keep_make!(AnyMachine, self, machine => machine.run(k, budget, &mut [0u64; 258][..length]))
+    }
+
+    pub(crate) fn last(&self, k: u16) -> Result<Option<(u8, u64)>, Refusal>
+        ensures { Outcome (Last k) (machine_state self.now) (latest_answer result) (machine_state self.now) }
+    {
+        for_make!(AnyMachine, self, machine => machine.last(k))
     }
 }

@@ -226,6 +226,13 @@ impl Session {
         }
     }
 
+    fn last(&self, k: u16) -> Result<Answer, Trouble>
+        ensures { Performed (asked.Last k) self.now result self.now }
+    {
+        let latest = self.stage.machine()?.last(k);
+        Ok(latest.map_or_else(Answer::Refused, Answer::Latest))
+    }
+
     // Does what the command asks for and answers, or changes nothing where that cannot be done.
     pub fn perform(&mut self, heap: Global, command: Command<'_>) -> Result<Answer, Trouble>
         ensures { Performed command.entry self.old result self.new }
@@ -240,6 +247,7 @@ impl Session {
             Command::Fetch(k, address, size) => self.fetch(heap, k, address, size),
             Command::Get(k, index) => self.get(k, index),
             Command::Run(k, budget, work) => self.run(k, budget, work),
+            Command::Last(k) => self.last(k),
             Command::Release => self.release_memory(),
         }
     }

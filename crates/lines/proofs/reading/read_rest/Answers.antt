@@ -36,3 +36,7 @@ returns-in_err-k-in-Get c =
 
 pub returns-in_ok-k-in-Get : goal.returns-in_ok-k-in-Get
 returns-in_ok-k-in-Get c = rest_reads _ _ _ c.in-Get.is _ (_, _, refl, filled_unpacked (operand.K ∷ operand.Index ∷ []) _ _ 2 refl c.in_ok-k-in-Get.ensures)
+
+pub returns-in_err-k-in-Last : goal.returns-in_err-k-in-Last
+returns-in_err-k-in-Last c =
+    rest_fails _ _ _ c.in-Last.is c.from_residual-in_err-k-in-Last.result c.from_residual-in_err-k-in-Last.ensures.0 (λ _ b. c.in_err-k-in-Last.ensures (b.0 ∷ []) b.2)

@@ -1,5 +1,5 @@
 use Rattle.std.proofs.Common.{rules}
-use Rattle.lines.specs.declared.keyword.CommandWord.TheVariants.{Memory, Row, Lay, Make, Put, Set, Fetch, Get, Run, Release}
+use Rattle.lines.specs.declared.keyword.CommandWord.TheVariants.{Memory, Row, Lay, Make, Put, Set, Fetch, Get, Run, Last, Release}
 use Rattle.lines.proofs.keyword.CommandWordTryFromRefSliceU8.try_from.Goals as goal
 
 pub returns-in_default : goal.returns-in_default
@@ -12,4 +12,5 @@ returns-in_default c Set e = search rules
 returns-in_default c Fetch e = search rules
 returns-in_default c Get e = search rules
 returns-in_default c Run e = search rules
+returns-in_default c Last e = search rules
 returns-in_default c Release e = search rules
