@@ -1,5 +1,5 @@
 // Laying a plan: every row is checked before the plan changes.
-ghost use Rattle.std.specs.Prelude.{ℕ, ◌^◌, ◌<◌, ◌≤◌, length, MatchOption, MatchResult};
+ghost use Rattle.std.specs.Prelude.{ℕ, ◌^◌, ◌<◌, ◌≤◌, length, IfSome, MatchOption, MatchResult};
 ghost use Rattle.plan.specs.Areas.{EndsWithin, Shares, row_at};
 ghost use Rattle.plan.specs.Grounds.{Applies, Refuses};
 ghost use Rattle.plan.specs.Lays.{Lays};
@@ -12,7 +12,8 @@ use super::row::Row;
 
 // The first earlier row within the laid size that shares a byte with this one.
 fn sharer(earlier: &[Row], row: Placed, laid: u64) -> Option<usize>
-    ensures { MatchOption result ((j : ℕ) → j < length earlier.now → EndsWithin (row_at earlier.now j) laid → Shares row.row (row_at earlier.now j) → ⊥) (λ j. (j < length earlier.now) × Shares row.row (row_at earlier.now j)) }
+    ensures shares { MatchOption result ((j : ℕ) → j < length earlier.now → EndsWithin (row_at earlier.now j) laid → Shares row.row (row_at earlier.now j) → ⊥) (λ j. (j < length earlier.now) × Shares row.row (row_at earlier.now j)) }
+    ensures first { IfSome result (λ j. (k : ℕ) → k < j → EndsWithin (row_at earlier.now k) laid → Shares row.row (row_at earlier.now k) → ⊥) }
 {
     earlier.iter().position(|q| Placed::within(*q, laid).is_some_and(|q| row.share_byte(q)))
 }

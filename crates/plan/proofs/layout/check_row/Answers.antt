@@ -30,10 +30,10 @@ returns-in-Some c =
     let ends : EndsWithin (row_at rows c.args.i) c.args.laid = search rules in
     let r = c.new-in-Some.ensures in
     let j = c.in-Some.j in
-    let before : j < c.args.i = omega (arith, c.in-Some.ensures.0, length-take c.args.i rows) in
+    let before : j < c.args.i = omega (arith, c.in-Some.ensures.shares.0, length-take c.args.i rows) in
     overlap_due rows c.args.laid c.args.i c.requires.place c.requires.few c.requires.small
     (omega arith, omega arith, omega arith, ends.0, ends.1) c.requires.earlier j
-    (inr (before, with_earlier rows c.args.i j _ _ is before c.in-Some.ensures.1))
+    (inr (before, with_earlier rows c.args.i j _ _ is before c.in-Some.ensures.shares.1))
     c.new-in-Some.result r.0 r.1 r.2
 
 pub returns-in-None : goal.returns-in-None
@@ -50,7 +50,7 @@ returns-in-None c =
           let b = bounded_row rows c.args.laid j (omega (arith, p.0)) (λ g. c.requires.earlier g j p.0) in
           let same = get_or-take i rows j _ p.0 in
           let within : EndsWithin (row_at rows j) c.args.laid = (b.3, b.4) in
-          c.in-None.ensures j (omega (arith, length-take i rows, p.0))
+          c.in-None.ensures.shares j (omega (arith, length-take i rows, p.0))
           (subst (λ (x : Row). EndsWithin x c.args.laid) (sym same) within)
           (subst (λ (x : Row). Shares x (row_at (take i rows) j)) (sym is) (subst (λ (x : Row). Shares (row_at rows i) x) (sym same) p.1))
     ])
