@@ -1,4 +1,4 @@
--- What the signed quotient and remainder are, and that a register and its signed number stand for each other.
+-- What the signed quotient and remainder are, and that a register's signed number stands for that register.
 use Rattle.std.specs.Prelude.{◌≡◌, ℕ, ◌^◌, ◌<◌, ◌⊎◌, ℤ, pos, ◌+ℤ◌, ◌*ℤ◌, ◌≢◌, int_div, int_rem, unsigned_abs}
 use Rattle.std.specs.Int.Signed.{non_neg}
 use Rattle.numbers.specs.Signed.{signed, register}
