@@ -177,23 +177,27 @@ trouble_of (Run k budget work) g = needs_machine g
 trouble_of (Last k) g = needs_machine g
 trouble_of Release g = needs_machine g
 
--- Only these make something that may find no room: a memory, a row, and the bytes of a put and a fetch.
-abbrev pub NeedsRoom : Command → Type 0
-NeedsRoom (Memory make) = Unit {0}
-NeedsRoom (Row r) = Unit {0}
-NeedsRoom (Lay n) = ⊥
-NeedsRoom Make = ⊥
-NeedsRoom (Put k b hex) = Unit {0}
-NeedsRoom (Set k i w) = ⊥
-NeedsRoom (Fetch k b n) = Unit {0}
-NeedsRoom (Get k i) = ⊥
-NeedsRoom (Run k budget work) = ⊥
-NeedsRoom (Last k) = ⊥
-NeedsRoom Release = ⊥
+-- Only these make something that may find no room: a memory, a row, and the bytes of a put and a fetch. Those of a fetch are
+-- made only where the machine would fill them.
+abbrev pub NeedsRoom : Command → Stage → Type 0
+NeedsRoom (Memory make) g = Unit {0}
+NeedsRoom (Row r) g = Unit {0}
+NeedsRoom (Lay n) g = ⊥
+NeedsRoom Make g = ⊥
+NeedsRoom (Put k b hex) g = Unit {0}
+NeedsRoom (Set k i w) g = ⊥
+NeedsRoom (Fetch k b n) g =
+    (m : AnyMachine) × (bs : List ℕ)
+    × (g ≡ stage.Made m)
+    × Outcome (calls.Fetch k b n) (machine_state m) (calls.Filled bs) (machine_state m)
+NeedsRoom (Get k i) g = ⊥
+NeedsRoom (Run k budget work) g = ⊥
+NeedsRoom (Last k) g = ⊥
+NeedsRoom Release g = ⊥
 
--- Why a command is not performed at a stage.
+-- Why a command is not performed at a stage: something stands in the way, or else there is no room.
 abbrev pub Hindered : Command → Stage → Trouble → Type 0
-Hindered c g e = ((e ≡ NoRoom) × NeedsRoom c) ⊎ (trouble_of c g ≡ Some e)
+Hindered c g e = ((e ≡ NoRoom) × NeedsRoom c g × (trouble_of c g ≡ None)) ⊎ (trouble_of c g ≡ Some e)
 
 -- What performing a command answers: where it cannot be performed, nothing changes.
 abbrev pub Performed : Command → Session → Result Answer Trouble → Session → Type 0

@@ -10,7 +10,7 @@ use Rattle.page.proofs.client.kept.Goals as goal
 pub returns : goal.returns
 returns c =
     let bytes = λ (p : Page). p.cells in
-    let made = c.make-machine.ensures in
+    let made = c.make-machine.ensures.opening in
     let plan = laid_ok _ _ _ _ c.lay.result _ c.lay.ensures (sym c.ok.ensures.value ∙ c.in_ok-ok.was) in
     let size : c.make-machine.result.plan.size ≡ 4096 = omega (arith, ap (λ (s : State). s.plan.size) made, plan.same_size) in
     let rows = ap (λ (s : State). rows_of s.plan) made ∙ plan.same_rows in

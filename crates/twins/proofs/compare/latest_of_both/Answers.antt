@@ -1,15 +1,15 @@
-use Rattle.std.proofs.Common.{refl, sym, subst}
+use Rattle.std.proofs.Common.{refl, sym, subst, ap, ◌∙◌}
 use Rattle.machine.specs.States.{State}
-use Rattle.machine.specs.Calls.{Put, Run, Last}
+use Rattle.machine.specs.Calls.{Answer, Put, Run, Last}
 use Rattle.machine.specs.Answers.{ended_answer}
 use Rattle.machine.specs.Machines.{state, opening}
-use Rattle.machine.specs.Outcomes.{Outcome}
+use Rattle.machine.specs.Outcomes.{Outcome, outcome}
 use Rattle.machine.specs.Separation.{Alike, Roomy}
 use Rattle.twins.proofs.Uses.{same_answer}
 use Rattle.twins.proofs.compare.latest_of_both.Goals as goal
 
-pub returns : goal.returns
-returns g c =
+pub returns-clause-same : goal.returns-clause-same
+returns-clause-same g c =
     let k = c.args.k in
     let bytes = g.M.Memory.bytes in
     let s = state bytes c.make-a.result in
@@ -30,3 +30,11 @@ returns g c =
     c.requires.another c.requires.another refl refl
     c.put-put.ensures c.run-other.ensures.outcome c.run-mine.ensures.outcome c.last.ensures
     (subst R c.make-b.ensures.opening c.run-theirs.ensures.outcome) c.last-2.ensures
+
+pub returns-clause-alone : goal.returns-clause-alone
+returns-clause-alone g c =
+    let k = c.args.k in
+    let t3 = state g.N.Memory.bytes c.run-theirs.new.self in
+    let R : State → Type 0 = λ x. Outcome (Run k c.args.budget 258) x (ended_answer c.run-theirs.result) t3 in
+    let ran = subst R c.make-b.ensures.opening c.run-theirs.ensures.outcome in
+    sym (ap (λ (p : Answer × State). (outcome p.1 (Last k)).0) ran ∙ ap (λ (p : Answer × State). p.0) c.last-2.ensures)
