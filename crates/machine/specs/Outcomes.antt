@@ -1,4 +1,5 @@
--- What a call answers and the state that it leads to, by the row of the compartment that it names alone.
+-- What a call answers and the state that it leads to: a refusal, or what is done by the row and the record of the compartment
+-- that it names.
 use Rattle.std.specs.Prelude.{◌≡◌, ℕ, ◌+◌, ◌*◌, cond, List, length, take, drop, Some, None, Ok, Err, Option, Result, ◌==◌, nat_lt, slice_index_or, slice_set}
 use Rattle.std.proofs.lemmas.List.Edits.{sets}
 use Rattle.memory.specs.Bytes.{value_at, put_at}
