@@ -12,7 +12,7 @@ mod width;
 
 pub use access::{load, store};
 pub use element::Element;
-pub use inside::{has, load_inside, store_inside};
+pub use inside::{load_inside, store_inside};
 pub use laws::accesses_stand;
 pub use meaning::Memory;
 pub use owned::{Flat, Owned, Words};

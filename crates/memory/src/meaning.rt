@@ -1,5 +1,5 @@
 // The meaning that every make of a memory keeps: a list of bytes.
-ghost use Rattle.std.specs.Prelude.{◌≡◌, ℕ, ◌^◌, ◌≤◌, List, length, slice_index, slice_set};
+ghost use Rattle.std.specs.Prelude.{◌≡◌, ℕ, ◌^◌, ◌<◌, ◌≤◌, List, length, slice_index, slice_set};
 
 // No memory has more bytes than this.
 pub(crate) const LIMIT: u64 = 0x1_0000_0000;
@@ -18,6 +18,22 @@ pub trait Memory {
     // Makes that one place hold the byte; where the memory has no such place, nothing changes.
     fn write(&mut self, address: u64, byte: u8)
         ensures value { bytes self.new ≡ slice_set (bytes self.old) address byte };
+
+    // The same where the memory is known to have the place. A further make need not write these two; one that does may
+    // leave out the test of the address, which is what a run spends most of its time on.
+    fn read_inside(&self, address: u64) -> u8
+        requires { address < length (bytes self.now) }
+        ensures { result ≡ slice_index (bytes self.now) address }
+    {
+        self.read(address)
+    }
+
+    fn write_inside(&mut self, address: u64, byte: u8)
+        requires { address < length (bytes self.old) }
+        ensures value { bytes self.new ≡ slice_set (bytes self.old) address byte }
+    {
+        self.write(address, byte);
+    }
 
     ghost short: { (m : Self) → length (bytes m) ≤ 2 ^ 32 };
 }

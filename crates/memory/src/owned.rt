@@ -1,5 +1,5 @@
 // A memory over numbers of one kind that are handed in.
-ghost use Rattle.std.specs.Prelude.{◌≡◌, length, slice_set};
+ghost use Rattle.std.specs.Prelude.{◌≡◌, ◌<◌, length, slice_set};
 ghost use Rattle.memory.specs.Bytes.{cut, past};
 ghost use Rattle.memory.specs.Makes.{owned_bytes};
 ghost use Rattle.memory.specs.Cuts.{cut_short};
@@ -51,10 +51,14 @@ impl<E: Element> Memory for Owned<E> {
 
     fn read(&self, address: u64) -> u8 {
         if address < self.size() {
-            self.held[(address / E::BYTES) as usize].byte(address % E::BYTES)
+            self.read_inside(address)
         } else {
             0
         }
+    }
+
+    fn read_inside(&self, address: u64) -> u8 {
+        self.held[(address / E::BYTES) as usize].byte(address % E::BYTES)
     }
 
     fn write(&mut self, address: u64, byte: u8)
@@ -62,8 +66,16 @@ impl<E: Element> Memory for Owned<E> {
         ensures rest { past (E.spread self.new.held.items) ≡ past (E.spread self.old.held.items) }
     {
         if address < self.size() {
-            let i = (address / E::BYTES) as usize;
-            self.held[i] = self.held[i].with_byte(address % E::BYTES, byte);
+            self.write_inside(address, byte);
         }
+    }
+
+    fn write_inside(&mut self, address: u64, byte: u8)
+        requires { address < length (owned_bytes E.spread self.old) }
+        ensures value { owned_bytes E.spread self.new ≡ slice_set (owned_bytes E.spread self.old) address byte }
+        ensures rest { past (E.spread self.new.held.items) ≡ past (E.spread self.old.held.items) }
+    {
+        let i = (address / E::BYTES) as usize;
+        self.held[i] = self.held[i].with_byte(address % E::BYTES, byte);
     }
 }

@@ -1,5 +1,5 @@
 // Two memories of any make as one: the bytes of the second follow those of the first.
-ghost use Rattle.std.specs.Prelude.{◌≡◌, ◌++◌, length, slice_set};
+ghost use Rattle.std.specs.Prelude.{◌≡◌, ◌<◌, ◌++◌, length, slice_set};
 ghost use Rattle.memory.specs.Bytes.{cut, past};
 ghost use Rattle.memory.specs.Makes.{spliced_all, spliced_bytes};
 ghost use Rattle.memory.specs.Cuts.{cut_short};
@@ -41,13 +41,19 @@ impl<A: Memory, B: Memory> Memory for Spliced<A, B> {
     }
 
     fn read(&self, address: u64) -> u8 {
-        let seam = self.first.size();
-        if address < seam {
-            self.first.read(address)
-        } else if address < LIMIT {
-            self.second.read(address - seam)
+        if address < self.size() {
+            self.read_inside(address)
         } else {
             0
+        }
+    }
+
+    fn read_inside(&self, address: u64) -> u8 {
+        let seam = self.first.size();
+        if address < seam {
+            self.first.read_inside(address)
+        } else {
+            self.second.read_inside(address - seam)
         }
     }
 
@@ -55,11 +61,21 @@ impl<A: Memory, B: Memory> Memory for Spliced<A, B> {
         ensures value { spliced_bytes A.Memory.bytes B.Memory.bytes self.new ≡ slice_set (spliced_bytes A.Memory.bytes B.Memory.bytes self.old) address byte }
         ensures rest { past (spliced_all A.Memory.bytes B.Memory.bytes self.new) ≡ past (spliced_all A.Memory.bytes B.Memory.bytes self.old) }
     {
+        if address < self.size() {
+            self.write_inside(address, byte);
+        }
+    }
+
+    fn write_inside(&mut self, address: u64, byte: u8)
+        requires { address < length (spliced_bytes A.Memory.bytes B.Memory.bytes self.old) }
+        ensures value { spliced_bytes A.Memory.bytes B.Memory.bytes self.new ≡ slice_set (spliced_bytes A.Memory.bytes B.Memory.bytes self.old) address byte }
+        ensures rest { past (spliced_all A.Memory.bytes B.Memory.bytes self.new) ≡ past (spliced_all A.Memory.bytes B.Memory.bytes self.old) }
+    {
         let seam = self.first.size();
         if address < seam {
-            self.first.write(address, byte);
-        } else if address < LIMIT {
-            self.second.write(address - seam, byte);
+            self.first.write_inside(address, byte);
+        } else {
+            self.second.write_inside(address - seam, byte);
         }
     }
 }

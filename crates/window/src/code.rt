@@ -5,7 +5,7 @@ ghost use Rattle.window.specs.Views.{seen, Whole};
 use super::extent::Extent;
 use super::view::place;
 use isa::Code;
-use memory::{Memory, Width, has, load_inside};
+use memory::{Memory, Width, load_inside};
 
 // No byte of an instruction stands further behind its opcode.
 const LAST: u64 = 9;
@@ -26,13 +26,14 @@ impl<M: Memory> Code for Anywhere<'_, M> {
 
     #[tactic(auto, using(crate::proofs::Seeing::byte_seen))]
     fn opcode(&self) -> u8 {
-        self.memory.read(place(self.extent, Width::Byte, self.p))
+        self.memory
+            .read_inside(place(self.extent, Width::Byte, self.p))
     }
 
     #[tactic(auto, using(crate::proofs::Seeing::byte_seen))]
     fn byte(&self, i: u64) -> u8 {
         self.memory
-            .read(place(self.extent, Width::Byte, self.p.wrapping_add(i)))
+            .read_inside(place(self.extent, Width::Byte, self.p.wrapping_add(i)))
     }
 
     #[tactic(auto, using(crate::proofs::Seeing::load_seen))]
@@ -56,7 +57,6 @@ pub(crate) struct Inside<'a, M: Memory> {
 }
 
 impl<'a, M: Memory> Inside<'a, M> {
-    // The second test tells the compiler that the memory has the bytes, so that no byte is tested again.
     pub(crate) fn at(memory: &'a M, extent: Extent, p: u64) -> Option<Inside<'a, M>>
         requires { Whole (M.Memory.bytes memory.now) extent }
         ensures { IfSome result (λ c. (seen (M.Memory.bytes c.memory.now) c.extent ≡ seen (M.Memory.bytes memory.now) extent) × (c.p ≡ p)) }
@@ -64,10 +64,7 @@ impl<'a, M: Memory> Inside<'a, M> {
         if p >= extent.max.saturating_sub(LAST - 1) {
             return None;
         }
-        if has(memory, extent.off + p, LAST + 1) {
-            return Some(Inside { memory, extent, p });
-        }
-        unreachable!()
+        Some(Inside { memory, extent, p })
     }
 }
 
@@ -78,12 +75,12 @@ impl<M: Memory> Code for Inside<'_, M> {
 
     #[tactic(auto, using(crate::proofs::Seeing::byte_seen, isa::proofs::Placing::placed_fits))]
     fn opcode(&self) -> u8 {
-        self.memory.read(self.extent.off + self.p)
+        self.memory.read_inside(self.extent.off + self.p)
     }
 
     #[tactic(auto, using(crate::proofs::Insides::byte_inside_seen))]
     fn byte(&self, i: u64) -> u8 {
-        self.memory.read(self.extent.off + self.p + i)
+        self.memory.read_inside(self.extent.off + self.p + i)
     }
 
     #[tactic(auto, using(crate::proofs::Insides::load_inside_seen))]

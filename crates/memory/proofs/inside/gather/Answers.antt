@@ -2,8 +2,8 @@ use Rattle.std.proofs.Common.{◌≡◌, ◌+◌, get_or, arith, rules}
 use Rattle.memory.proofs.Gathers.{from_fn_each}
 use Rattle.memory.proofs.inside.gather.Goals as goal
 
-pub returns-then-has : goal.returns-then-has
-returns-then-has g c =
+pub returns : goal.returns
+returns g c =
     let bytes = g.M.Memory.bytes c.args.memory.now in
     record {
       length = c.from_fn.ensures.items.long;

@@ -11,3 +11,4 @@ invariant-loop-i g l =
     × (rest ≡ take n ps)
     × (n ≤ g.row.N)
     × (put_at (g.M.Memory.bytes l.memory) l.fn.address n (value_at ps 0 n) ≡ put_at (g.M.Memory.bytes l.fn.memory) l.fn.address g.row.N (value_at ps 0 g.row.N))
+    × (length (g.M.Memory.bytes l.memory) ≡ length (g.M.Memory.bytes l.fn.memory))

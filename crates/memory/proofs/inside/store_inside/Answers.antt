@@ -14,7 +14,7 @@ at_width bs cs a x w v e h = h ∙ ap (λ (u : Width). put_at bs a (width_bytes 
 
 pub returns-in-Byte : goal.returns-in-Byte
 returns-in-Byte g c = at_width _ _ _ _ _ _ c.in-Byte.is
-    (put_more _ _ 0 _ c.write.ensures.value (omega arith) (and_mask c.args.value 8) (put_none _ _ _))
+    (put_more _ _ 0 _ c.write_inside.ensures.value (omega arith) (and_mask c.args.value 8) (put_none _ _ _))
 
 pub returns-in-Short : goal.returns-in-Short
 returns-in-Short g c = at_width _ _ _ _ _ _ c.in-Short.is
