@@ -1,79 +1,59 @@
--- A run that has begun so many instructions: one more, and its ends.
-use Rattle.std.proofs.Common.{◌≡◌, ℕ, suc, ◌+◌, ◌-◌, ◌<◌, ◌≤◌, Some, None, Option, sym, ap, ◌∙◌, subst, arith}
+-- A run that has begun so many instructions, and one more.
+use Rattle.std.proofs.Common.{◌≡◌, ℕ, suc, ◌+◌, ◌-◌, ◌<◌, ◌≤◌, false, Some, None, Option, unwrap_or, refl, sym, ap, ◌∙◌, subst, arith}
+use Rattle.std.specs.Option.{is_some}
+use Rattle.std.proofs.lemmas.Bool.{true≢false}
 use Rattle.memory.specs.declared.meaning.Memory.{Ghosts}
 use Rattle.isa.specs.Steps.{Config, stepped}
-use Rattle.isa.specs.Runs.{Ran, ran_on, ran}
+use Rattle.isa.specs.Runs.{ran_on}
 use Rattle.isa.specs.declared.end.End.{End}
 use Rattle.isa.specs.declared.end.End.TheVariants.{Budget}
-use Rattle.isa.proofs.Going.{ran_goes, ran_ends, ran_spent}
+use Rattle.isa.proofs.Going.{ran_spent}
 use Rattle.window.specs.Windows.{Parts}
 use Rattle.cpu.specs.declared.processor.Processor.{Processor}
+use Rattle.cpu.specs.Configs.{left_of}
 use Rattle.cpu.specs.Processors.{config_of, Reaches}
 
--- what is left of the run is the whole run
-pub record Runs {M : Type 0} {g : Ghosts M} (budget count : ℕ) (first now : Processor M g) : Type 0 where
-  pub left : ran_on (budget - count) count (config_of now) ≡ ran budget (config_of first)
-  pub reaches : Reaches first now (config_of now)
+-- what is left of a run is left of it after a step
+pub left_stepped : (budget count : ℕ) (c : Config) → count < budget → left_of (stepped c).end budget (count + 1) (stepped c).next ≡ left_of None budget count c
+unfolding ran_on
+left_stepped budget count c some =
+    let one : budget - count ≡ suc (budget - (count + 1)) = omega arith in
+    sym (ap (λ (n : ℕ). ran_on n count c) one)
 
--- how it ends
-pub record RunsTo {M : Type 0} {g : Ghosts M} (budget : ℕ) (first : Processor M g) (end : End) (count : ℕ) (last : Processor M g) : Type 0 where
-  pub end_is : end ≡ (ran budget (config_of first)).end
-  pub count_is : count ≡ (ran budget (config_of first)).count
-  pub reaches : Reaches first last (ran budget (config_of first)).last
+pub left_next : (budget count : ℕ) (c next : Config) (o : Option End) → count < budget → o ≡ (stepped c).end → next ≡ (stepped c).next → left_of o budget (count + 1) next ≡ left_of None budget count c
+left_next budget count c next o some end is =
+    ap (λ (x : Option End). left_of x budget (count + 1) next) end
+    ∙ ap (λ (x : Config). left_of (stepped c).end budget (count + 1) x) is
+    ∙ left_stepped budget count c some
 
-module _ {M : Type 0} {g : Ghosts M} (first now next : Processor M g) (b c : Config) where
-  pub reaches_more : Reaches first now b → Reaches now next c → Reaches first next c
-  reaches_more p q =
+-- a run that has not ended has no end yet
+pub none_is : (o : Option End) → is_some o ≡ false → o ≡ None
+none_is None h = refl
+none_is (Some e) h = absurd (true≢false h)
+
+-- where a run ends, or has spent its budget, nothing is left of it
+pub left_is : (budget count : ℕ) (c : Config) (o : Option End) → (o ≡ None → budget ≤ count) → count ≤ budget → left_of o budget count c ≡ record { end = unwrap_or o Budget; count = count; last = c }
+left_is budget count c (Some e) spent within = refl
+left_is budget count c None spent within =
+    let z : budget - count ≡ 0 = omega (arith, spent refl) in
+    ap (λ (n : ℕ). ran_on n count c) z ∙ ran_spent count c
+
+module _ {M : Type 0} {g : Ghosts M} (first now next : Processor M g) (b c : Config) (reached : Reaches first now b) (step : Reaches now next c) where
+  reaches_more : Reaches first next c
+  reaches_more =
       record {
-        window = q.window ∙ ap (λ (h : Parts). record h { window = c.window }) p.window;
-        registers = q.registers;
-        lent = q.lent ∙ p.lent;
-        same_memory = q.same_memory ∙ p.same_memory;
-        same_bank = q.same_bank ∙ p.same_bank;
+        window = step.window ∙ ap (λ (h : Parts). record h { window = c.window }) reached.window;
+        registers = step.registers;
+        lent = step.lent ∙ reached.lent;
+        same_memory = step.same_memory ∙ reached.same_memory;
+        same_bank = step.same_bank ∙ reached.same_bank;
       }
 
-  config_is : Reaches now next c → c ≡ config_of next
-  config_is q =
-      λ i. record { window = sym (ap (λ (h : Parts). h.window) q.window) i; registers = sym q.registers i }
+  pub config_is : config_of next ≡ c
+  config_is =
+      λ i. record { window = ap (λ (h : Parts). h.window) step.window i; registers = step.registers i }
 
-module _ {M : Type 0} {g : Ghosts M} (budget count : ℕ) (first now : Processor M g) (runs : Runs budget count first now) where
-  ended : (r : Ran) → ran_on (budget - count) count (config_of now) ≡ r → (last : Processor M g) → Reaches first last r.last → RunsTo budget first r.end r.count last
-  ended r e last m =
-      let is : r ≡ ran budget (config_of first) = sym e ∙ runs.left in
-      let P : Ran → Type 0 = λ x. Reaches first last x.last in
-      record {
-        end_is = ap (λ (x : Ran). x.end) is;
-        count_is = ap (λ (x : Ran). x.count) is;
-        reaches = subst P is m;
-      }
-
-  pub run_spent : budget ≤ count → count ≤ budget → RunsTo budget first Budget budget now
-  run_spent h k =
-      let z : budget - count ≡ 0 = omega arith in
-      let same : count ≡ budget = omega arith in
-      ended (record { end = Budget; count = budget; last = config_of now })
-      (ap (λ (n : ℕ). ran_on n count (config_of now)) z ∙ ran_spent count (config_of now) ∙ ap (λ (n : ℕ). record { end = Budget; count = n; last = config_of now }) same)
-      now runs.reaches
-
-  module _ (some : count < budget) (o : Option End) (end_is : o ≡ (stepped (config_of now)).end) (next : Processor M g) (reaches : Reaches now next (stepped (config_of now)).next) where
-    one : budget - count ≡ suc (budget - (count + 1))
-    one = omega arith
-
-    pub run_more : o ≡ None → Runs budget (count + 1) first next
-    run_more h =
-        let is = config_is first now next (config_of now) (stepped (config_of now)).next reaches in
-        let P : Config → Type 0 = λ x. Reaches first next x in
-        record {
-          left =
-              sym (ap (λ (n : ℕ). ran_on n count (config_of now)) one
-              ∙ ran_goes (budget - (count + 1)) count (config_of now) (sym end_is ∙ h)
-              ∙ ap (λ (x : Config). ran_on (budget - (count + 1)) (count + 1) x) is)
-              ∙ runs.left;
-          reaches = subst P is (reaches_more first now next _ _ runs.reaches reaches);
-        }
-
-    pub run_ends : (end : End) → o ≡ Some end → RunsTo budget first end (count + 1) next
-    run_ends end h =
-        ended (record { end = end; count = count + 1; last = (stepped (config_of now)).next })
-        (ap (λ (n : ℕ). ran_on n count (config_of now)) one ∙ ran_ends (budget - (count + 1)) count (config_of now) end (sym end_is ∙ h))
-        next (reaches_more first now next _ _ runs.reaches reaches)
+  pub reaches_next : Reaches first next (config_of next)
+  reaches_next =
+      let P : Config → Type 0 = λ x. Reaches first next x in
+      subst P (sym config_is) reaches_more

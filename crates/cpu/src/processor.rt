@@ -1,18 +1,18 @@
 // Running instructions: one instruction, and the run of a budget.
-ghost use Rattle.std.specs.Prelude.{◌≡◌, ◌≤◌};
+ghost use Rattle.std.specs.Prelude.{◌≡◌, ◌≤◌, None};
 ghost use Rattle.bank.specs.Registers.{register_index};
 ghost use Rattle.isa.specs.Reading.{decoded};
 ghost use Rattle.isa.specs.Steps.{P, S, held, taking, performed, obeyed, stepped};
-ghost use Rattle.isa.specs.Runs.{ran};
 ghost use Rattle.memory.specs.Widths.{width_bytes};
 ghost use Rattle.numbers.specs.Values.{plus, minus};
 ghost use Rattle.cpu.specs.Configs.{begun};
 ghost use Rattle.cpu.specs.Finishing.{finished};
+ghost use Rattle.cpu.specs.Configs.{left_of};
 ghost use Rattle.cpu.specs.declared.rest.Rest.TheVariants.{Nothing};
 
 use super::rest::Rest;
 use bank::{Bank, Register};
-use isa::{Effect, End, Instruction};
+use isa::{Effect, End, Form, Instruction, Operands, Operation, Rows, do_row};
 use memory::{Memory, Width};
 use window::Window;
 
@@ -27,7 +27,7 @@ pub struct Processor<'m, 'b, 'w, M: Memory> {
 }
 
 impl<M: Memory> Processor<'_, '_, '_, M> {
-    ghost use Rattle.cpu.specs.Processors.{config_of, Reaches};
+    ghost use Rattle.cpu.specs.Processors.{config_of, Reaches, Ready};
 
     // The instruction at P.
     pub fn read(&self) -> Instruction
@@ -137,22 +137,34 @@ impl<M: Memory> Processor<'_, '_, '_, M> {
         None
     }
 
-    // P moves on, the sources are read, and the effect follows; the end, where it ends the run.
+    // P moves on, the sources are read, and the effect follows; the end, where it ends the run. What an opcode's arm knows of
+    // the instruction stands for itself, so that it stays a constant.
     #[tactic(auto, using(crate::proofs::Passing::begun_is))]
-    pub fn perform(&mut self, instruction: Instruction) -> Option<End>
-        ensures end { result ≡ (obeyed (config_of self.old) instruction).end }
-        ensures next { Reaches self.old self.new (obeyed (config_of self.old) instruction).next }
+    fn obey(&mut self, operation: Operation, operands: Operands, length: u8) -> Option<End>
+        ensures end { result ≡ (obeyed (config_of self.old) (record { operation = operation; operands = operands; length = length })).end }
+        ensures next { Reaches self.old self.new (obeyed (config_of self.old) (record { operation = operation; operands = operands; length = length })).next }
     {
         let p = self.get(Register::P);
-        self.set(Register::P, p.wrapping_add(u64::from(instruction.length)));
-        let effect = self.weigh(instruction.operation, instruction.operands);
+        self.set(Register::P, p.wrapping_add(u64::from(length)));
+        let effect = self.weigh(operation, operands);
         let rest = self.settle(p, effect);
         self.finish(rest)
     }
 
-    // The instruction at P, read and performed.
+    pub fn perform(&mut self, instruction: Instruction) -> Option<End>
+        ensures end { result ≡ (obeyed (config_of self.old) instruction).end }
+        ensures next { Reaches self.old self.new (obeyed (config_of self.old) instruction).next }
+    {
+        self.obey(
+            instruction.operation,
+            instruction.operands,
+            instruction.length,
+        )
+    }
+
+    // The instruction at P, read and performed, wherever it lies.
     #[tactic(auto, unfolding(isa::specs::Steps::stepped))]
-    fn step(&mut self) -> Option<End>
+    pub(crate) fn step(&mut self) -> Option<End>
         ensures end { result ≡ (stepped (config_of self.old)).end }
         ensures next { Reaches self.old self.new (stepped (config_of self.old)).next }
     {
@@ -160,19 +172,46 @@ impl<M: Memory> Processor<'_, '_, '_, M> {
         self.perform(instruction)
     }
 
-    // How the run ends, and how many instructions were begun.
-    pub fn run(&mut self, budget: u64) -> (End, u64)
-        ensures end { result.0 ≡ (ran budget (config_of self.old)).end }
-        ensures count { result.1 ≡ (ran budget (config_of self.old)).count }
-        ensures next { Reaches self.old self.new (ran budget (config_of self.old)).last }
+    // The same of one that lies in the window whole, by its opcode's arm.
+    #[tactic(auto, unfolding(isa::specs::Steps::stepped, isa::specs::Reading::decoded))]
+    fn step_inside(&mut self) -> Option<End>
+        requires { Ready self.old }
+        ensures end { result ≡ (stepped (config_of self.old)).end }
+        ensures next { Reaches self.old self.new (stepped (config_of self.old)).next }
+    {
+        let opcode = self.window.opcode(self.get(Register::P));
+        do_row(self, opcode)
+    }
+
+    // Goes on as long as instructions lie in the window whole; the end, where one ends the run, and how many were begun.
+    pub(crate) fn dash(&mut self, count: u64, budget: u64) -> (Option<End>, u64)
+        requires { count ≤ budget }
+        ensures left { left_of result.0 budget result.1 (config_of self.new) ≡ left_of None budget count (config_of self.old) }
+        ensures next { Reaches self.old self.new (config_of self.new) }
+        ensures onward { count ≤ result.1 }
         ensures within { result.1 ≤ budget }
     {
-        // No `?`, since an end is what the loop looks for.
-        for count in 0..budget {
-            if let Some(end) = self.step() {
-                return (end, count + 1);
+        let mut count = count;
+        while count < budget && self.window.extent.has_code(self.get(Register::P)) {
+            if let Some(end) = self.step_inside() {
+                return (Some(end), count + 1);
             }
+            count += 1;
         }
-        (End::Budget, budget)
+        (None, count)
+    }
+}
+
+impl<M: Memory> Rows for Processor<'_, '_, '_, M> {
+    ghost use Rattle.cpu.specs.Processors.{Ready, Does};
+
+    ghost ready = { Ready };
+
+    ghost does = { Does };
+
+    #[tactic(auto, unfolding(isa::specs::Reading::instruction_of))]
+    fn row(&mut self, operation: Operation, form: Form, length: u8) -> Option<End> {
+        let operands = self.window.operands(self.get(Register::P), form);
+        self.obey(operation, operands, length)
     }
 }

@@ -1,9 +1,8 @@
 -- The table's entry of an opcode, and the rule that every entry keeps.
-use Rattle.std.proofs.Common.{◌≡◌, ℕ, ◌+◌, ◌<◌, ◌≤◌, List, map, get_or, sym, refl, ap, ◌∙◌}
+use Rattle.std.proofs.Common.{◌≡◌, ℕ, ◌+◌, ◌<◌, ◌≤◌, List, map, get_or, sym, refl, ap, subst, ◌∙◌}
 use Rattle.std.proofs.lemmas.List.{get_or_default, get_or-map, get_or_past}
 use Rattle.isa.specs.Opcodes.{Entry, opcodes, unknown, entry_of}
-use Rattle.isa.specs.Reading.{operand_bytes, instruction_of}
-use Rattle.isa.specs.declared.instruction.Instruction.{Instruction}
+use Rattle.isa.specs.Reading.{operand_bytes}
 
 -- an opcode that the table has, at any default
 pub entry_is : (k : ℕ) (d : Entry) → k < 94 → get_or opcodes k d ≡ entry_of k
@@ -27,6 +26,9 @@ rule_known k d h =
     ∙ ap (λ (ns : List ℕ). get_or ns k 0) ruled
     ∙ get_or-map (λ (e : Entry). 1 + operand_bytes e.1) opcodes k d 0 h
 
--- an arm for opcode k, with the entry that stands at k
-pub arm_is : (k o : ℕ) (e : Entry) (w : List ℕ) (p : ℕ) (r : Instruction) → e ≡ entry_of k → o ≡ k → r ≡ instruction_of e w p → r ≡ instruction_of (entry_of o) w p
-arm_is k o e w p r at is h = h ∙ ap (λ (x : Entry). instruction_of x w p) (at ∙ ap (λ (j : ℕ). entry_of j) (sym is))
+-- an arm for opcode k does the entry that stands at k; the arm for every other does what stands for it
+pub arm_is : (D : Entry → Type 0) (k o : ℕ) (e : Entry) → e ≡ entry_of k → o ≡ k → D e → D (entry_of o)
+arm_is D k o e at is h = subst D (at ∙ ap (λ (j : ℕ). entry_of j) (sym is)) h
+
+pub arm_past : (D : Entry → Type 0) (o : ℕ) → 94 ≤ o → D unknown → D (entry_of o)
+arm_past D o h d = subst D (entry_past o h) d

@@ -11,9 +11,9 @@ mod instruction;
 mod operation;
 mod table;
 
-pub use arms::decode_by_arms;
+pub use arms::{Rows, do_row};
 pub use code::Code;
-pub use decoder::decode;
+pub use decoder::{decode, read_operands};
 pub use effect::Effect;
 pub use end::End;
 pub use form::Form;

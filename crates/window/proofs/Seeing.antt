@@ -130,18 +130,16 @@ bytes_of_parts bs e =
     ∙ take-append-drop e.off bs
 
 -- all bytes of a memory once others stand in its window
-module _ {M : Type 0} {g : Ghosts M} (bs : List ℕ) (e : Extent) (whole : Whole bs e) (new : Window M g) (w : List ℕ) (is : parts_of new ≡ record (memory_parts bs e) { window = w }) where
-  long : length w ≡ e.max + 1
-  long =
-      ap (λ (h : Parts). length h.window) (sym is)
-      ∙ length_seen (g.bytes new.memory.now) new.extent new.whole
-      ∙ ap (λ (h : Parts). h.extent.max + 1) is
+pub memory_replaced : (bs bs' : List ℕ) (e e' : Extent) → Whole bs e → Whole bs' e' → (w : List ℕ) → memory_parts bs' e' ≡ record (memory_parts bs e) { window = w } → bs' ≡ replaced bs e w
+memory_replaced bs bs' e e' whole whole' w is =
+    let long : length w ≡ e.max + 1 =
+    ap (λ (h : Parts). length h.window) (sym is) ∙ length_seen bs' e' whole' ∙ ap (λ (h : Parts). h.extent.max + 1) is in
+    sym (bytes_of_parts bs' e')
+    ∙ ap (λ (h : Parts). bytes_of h) is
+    ∙ sym (replaced_is bs e whole w long)
 
-  pub bytes_replaced : g.bytes new.memory.now ≡ replaced bs e w
-  bytes_replaced =
-      sym (bytes_of_parts (g.bytes new.memory.now) new.extent)
-      ∙ ap (λ (h : Parts). bytes_of h) is
-      ∙ sym (replaced_is bs e whole w long)
+pub bytes_replaced : {M : Type 0} {g : Ghosts M} (bs : List ℕ) (e : Extent) → Whole bs e → (new : Window M g) (w : List ℕ) → parts_of new ≡ record (memory_parts bs e) { window = w } → g.bytes new.memory.now ≡ replaced bs e w
+bytes_replaced {M} {g} bs e whole new w is = memory_replaced bs (g.bytes new.memory.now) e new.extent whole new.whole w is
 
 -- one byte
 pub byte_seen : (bs : List ℕ) (e : Extent) → Whole bs e → (a k : ℕ) → k ≡ e.off + placed (e.max + 1) 1 a → placed (e.max + 1) 1 a + 1 ≤ e.max + 1 → get_or bs k 0 ≡ load (seen bs e) 1 a

@@ -1,14 +1,11 @@
 // The code at an address of a window.
-ghost use Rattle.std.specs.Prelude.{◌≡◌, ◌+◌, ◌≤◌, IfSome};
+ghost use Rattle.std.specs.Prelude.{◌+◌, ◌≤◌};
 ghost use Rattle.window.specs.Views.{seen, Whole};
 
 use super::extent::Extent;
 use super::view::place;
 use isa::Code;
 use memory::{Memory, Width, load_inside};
-
-// No byte of an instruction stands further behind its opcode.
-const LAST: u64 = 9;
 
 // An instruction that may lie anywhere: each access is placed for itself.
 #[derive(Drop)]
@@ -49,23 +46,11 @@ impl<M: Memory> Code for Anywhere<'_, M> {
 // An instruction all of whose bytes lie in the window, however many it has: none is placed elsewhere.
 #[derive(Drop)]
 pub(crate) struct Inside<'a, M: Memory> {
-    memory: &'a M,
-    extent: Extent,
-    p: u64,
+    pub(crate) memory: &'a M,
+    pub(crate) extent: Extent,
+    pub(crate) p: u64,
     ghost whole: { Whole (M.Memory.bytes memory.now) extent },
     ghost inside: { p + 10 ≤ extent.max + 1 },
-}
-
-impl<'a, M: Memory> Inside<'a, M> {
-    pub(crate) fn at(memory: &'a M, extent: Extent, p: u64) -> Option<Inside<'a, M>>
-        requires { Whole (M.Memory.bytes memory.now) extent }
-        ensures { IfSome result (λ c. (seen (M.Memory.bytes c.memory.now) c.extent ≡ seen (M.Memory.bytes memory.now) extent) × (c.p ≡ p)) }
-    {
-        if p >= extent.max.saturating_sub(LAST - 1) {
-            return None;
-        }
-        Some(Inside { memory, extent, p })
-    }
 }
 
 impl<M: Memory> Code for Inside<'_, M> {

@@ -1,14 +1,14 @@
 // A window as it is read and written.
-ghost use Rattle.std.specs.Prelude.{◌≡◌};
-ghost use Rattle.isa.specs.Reading.{decoded};
-ghost use Rattle.isa.specs.Windows.{store as stored};
+ghost use Rattle.std.specs.Prelude.{◌≡◌, ◌+◌, ◌≤◌};
+ghost use Rattle.isa.specs.Reading.{decoded, operands_at};
+ghost use Rattle.isa.specs.Windows.{load as loaded, store as stored};
 ghost use Rattle.memory.specs.Widths.{width_bytes};
 ghost use Rattle.window.specs.Views.{Whole};
 
 use super::code::{Anywhere, Inside};
 use super::extent::Extent;
 use super::view::{View, place};
-use isa::{Instruction, decode, decode_by_arms};
+use isa::{Code, Form, Instruction, Operands, decode, read_operands};
 use memory::{Memory, Width, store_inside};
 
 // The bytes of an extent that the memory has whole, and that may change. No model hides the memory: its lender would
@@ -30,17 +30,42 @@ impl<M: Memory> Window<'_, M> {
         View::new(self.memory, self.extent)
     }
 
-    // The instruction at an address. Those that lie inside are read often.
+    // The instruction at an address.
     pub fn instruction(&self, p: u64) -> Instruction
         ensures { result ≡ decoded (parts_of self.now).window p }
     {
-        match Inside::at(self.memory, self.extent, p) {
-            Some(code) => decode_by_arms(&code),
-            None => decode(&Anywhere {
-                memory: self.memory,
-                extent: self.extent,
-                p,
-            }),
+        decode(&Anywhere {
+            memory: self.memory,
+            extent: self.extent,
+            p,
+        })
+    }
+
+    // Of an instruction that lies in the window whole: its opcode, and its operands by their form. No access is placed.
+    pub fn opcode(&self, p: u64) -> u8
+        requires { p + 10 ≤ self.now.extent.max + 1 }
+        ensures { result ≡ loaded (parts_of self.now).window 1 p }
+    {
+        self.code(p).opcode()
+    }
+
+    pub fn operands(&self, p: u64, form: Form) -> Operands
+        requires { p + 10 ≤ self.now.extent.max + 1 }
+        ensures { result ≡ operands_at form (parts_of self.now).window p }
+    {
+        read_operands(&self.code(p), form)
+    }
+
+    fn code(&self, p: u64) -> Inside<'_, M>
+        requires { p + 10 ≤ self.now.extent.max + 1 }
+        ensures memory { result.memory.now ≡ self.now.memory.now }
+        ensures extent { result.extent ≡ self.now.extent }
+        ensures p { result.p ≡ p }
+    {
+        Inside {
+            memory: self.memory,
+            extent: self.extent,
+            p,
         }
     }
 
