@@ -48,7 +48,7 @@ module _ (ps front next bs old : List ℕ) (a b i m : ℕ) (left : Left m front 
   pub place_inside : a + length ps ≤ length old → a + i < length bs
   place_inside h = omega (arith, one_less, left.first, left.some, left.long)
 
-  pub left_step : (n : ℕ) (cs : List ℕ) → n ≡ m → b < 256 → cs ≡ set bs (a + i) b → Left n next ps cs old a
+  pub left_step : (n : ℕ) (cs : List ℕ) → n ≡ m → ((k : ℕ) → get_or ps k 0 < 256) → cs ≡ set bs (a + i) b → Left n next ps cs old a
   left_step n cs e small put =
       let at : i ≡ length next = omega (arith, left.first) in
       let last : cs ≡ set bs (a + length next) b = rw (← at) put in
@@ -57,7 +57,7 @@ module _ (ps front next bs old : List ℕ) (a b i m : ℕ) (left : Left m front 
         part = next_is;
         some = omega (arith, one_less, left.some);
         still = ap (λ (ms : List ℕ). put_at ms a (length next) (value_at ps 0 (length next))) last
-            ∙ sym (put_last ps bs a (length next) (length next) b last_is small)
+            ∙ sym (put_last ps bs a (length next) (length next) b last_is (rw (← last_is) (small (length next))))
             ∙ rw (← one_less) left.still;
         long = ap (λ (ms : List ℕ). length ms) put ∙ length-set bs (a + i) b ∙ left.long;
       }

@@ -1,4 +1,3 @@
-use Rattle.std.proofs.Common.{rules, ◌<◌}
 use Rattle.memory.proofs.Scatters.{left_step, place_inside, put_done}
 use Rattle.memory.proofs.meaning.Memory.write_bytes.Goals as goal
 
@@ -9,9 +8,8 @@ write_inside-requires g c =
 
 pub loop-i-preserved : goal.loop-i-preserved
 loop-i-preserved g c =
-    let small : c.in-Some.digit.now < 256 = search rules in
     let s = c.in-Some.ensures.steps in
-    left_step _ _ _ _ _ _ _ _ _ c.loop-i.invariant s.1.0 s.1.1 _ _ s.0 small c.write_inside.ensures.value
+    left_step _ _ _ _ _ _ _ _ _ c.loop-i.invariant s.1.0 s.1.1 _ _ s.0 (λ k. (c.type_inv.digits k).fits) c.write_inside.ensures.value
 
 pub returns : goal.returns
 returns g c = record { value = put_done _ _ _ _ _ c.in-None.ensures.steps.1.0 c.loop-i.invariant.still }

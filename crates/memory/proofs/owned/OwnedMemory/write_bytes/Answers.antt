@@ -1,4 +1,4 @@
-use Rattle.std.proofs.Common.{rules, ◌+◌, ◌/◌, ◌^◌, ◌<◌, ◌≤◌, length, refl, ap, ◌∙◌, arith}
+use Rattle.std.proofs.Common.{◌+◌, ◌/◌, ◌^◌, ◌<◌, ◌≤◌, length, refl, ap, ◌∙◌, arith}
 use denote.Param.{layout}
 use prog.Memory.{size}
 use Rattle.std.proofs.Math.Nat.{mul-le-mul_right}
@@ -31,7 +31,6 @@ offset_bounds-held-at g c =
 
 pub loop-i-preserved : goal.loop-i-preserved
 loop-i-preserved g c =
-    let small : c.in-Some.digit.now < 256 = search rules in
     let held = c.loop-i.held in
     let bytes = g.E.Element.spread held in
     let s = c.in-Some.ensures.steps in
@@ -41,7 +40,7 @@ loop-i-preserved g c =
     let all = c.with_byte.ensures held _ (slice_get-get_or held _ _ i) in
     let place = byte_place (c.args.address + c.in-Some.i) _ _ _ c.BYTES.ensures c.BYTES-in-loop-i.ensures in
     record {
-      value = left_step _ _ _ _ _ _ _ _ _ c.loop-i.invariant.value s.1.0 s.1.1 _ _ s.0 small (ap cut all ∙ set-cut bytes _ _ place refl l);
+      value = left_step _ _ _ _ _ _ _ _ _ c.loop-i.invariant.value s.1.0 s.1.1 _ _ s.0 (λ k. (c.type_inv.digits k).fits) (ap cut all ∙ set-cut bytes _ _ place refl l);
       rest = ap past all ∙ past_set bytes _ _ (omega (arith, place, l)) ∙ c.loop-i.invariant.rest;
     }
 
