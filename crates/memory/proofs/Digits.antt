@@ -1,9 +1,10 @@
 -- Numbers as bytes, highest first: what the byte-order methods give, and one byte of many changed.
-use Rattle.std.proofs.Common.{◌≡◌, ℕ, zero, suc, ◌+◌, ◌-◌, ◌*◌, ◌/◌, ◌%◌, ◌<◌, ◌≤◌, List, [], ◌∷◌, ◌++◌, length, get_or, take, set, sym, refl, ap, ◌∙◌, ⊎_elim, not-suc-le-zero, arith, length-set, take_all, get_or-set_other, take-suc, get_or-set_same}
+use Rattle.std.proofs.Common.{◌≡◌, ℕ, zero, suc, ◌+◌, ◌-◌, ◌*◌, ◌/◌, ◌%◌, ◌^◌, ◌<◌, ◌≤◌, List, [], ◌∷◌, ◌++◌, length, get_or, take, set, sym, refl, ap, ◌∙◌, ⊎_elim, not-suc-le-zero, arith, length-set, take_all, get_or-set_other, take-suc, get_or-set_same}
 use native.Mathlib.Nat.{div-div-eq-div-mul}
 use lib.Arith.{digits_div, digits_mod}
 use Rattle.std.specs.List.{flat_map}
-use Rattle.std.proofs.lemmas.List.{get_or_append_left, set-append_left, set-append_right, get_or-append_right, set_past}
+use Rattle.std.proofs.lemmas.List.{get_or_append_left, get_or_push, set-append_left, set-append_right, get_or-append_right, set_past}
+use Rattle.std.proofs.lemmas.Nat.{shr-shr}
 use Rattle.std.proofs.lemmas.Bool.{cases_eq, cases_lt}
 use Rattle.memory.specs.Bytes.{bytes_of, bytes_of_all, value_at}
 use Rattle.memory.specs.Elements.{length-bytes_of}
@@ -61,6 +62,20 @@ bytes_of_small (suc n) v k =
     (λ (h : k < n). rw (get_or_append_left (bytes_of n (v / 256)) (v % 256 ∷ []) 0 k (omega arith)) (bytes_of_small n (v / 256) k))
     (λ (h : n ≤ k). rw (get_or-append_right (bytes_of n (v / 256)) (v % 256 ∷ []) n k 0 e h) (one (k - n) (v % 256) (omega arith)))
     (cases_lt k n)
+
+-- a byte of a number, by a shift: k bytes stand behind it
+pub byte_of : (n v r k : ℕ) → r + suc k ≡ n → get_or (bytes_of n v) r 0 ≡ v / 2 ^ (8 * k) % 256
+unfolding bytes_of
+byte_of zero v r k h = absurd (omega arith)
+byte_of (suc n) v r zero h =
+    let e = length-bytes_of n (v / 256) in
+    get_or_push (bytes_of n (v / 256)) (v % 256) 0 r (omega arith) ∙ omega arith
+byte_of (suc n) v r (suc k) h =
+    let e = length-bytes_of n (v / 256) in
+    let more : 8 + 8 * k ≡ 8 * suc k = omega arith in
+    get_or_append_left (bytes_of n (v / 256)) (v % 256 ∷ []) 0 r (omega arith)
+    ∙ byte_of n (v / 256) r k (omega arith)
+    ∙ ap (λ (m : ℕ). m % 256) (shr-shr v 8 (8 * k) ∙ ap (λ (j : ℕ). v / 2 ^ j) more)
 
 -- byte r of word q
 slice_index_all : (ws : List ℕ) (q r : ℕ) → q < length ws → r < 8 → get_or (bytes_of_all ws) (8 * q + r) 0 ≡ get_or (bytes_of 8 (get_or ws q 0)) r 0

@@ -67,8 +67,9 @@ impl Element for u64 {
 
     ghost even = { Prim.search rules };
 
+    // By a shift, since the compiler puts an array that is indexed into memory.
     fn byte(self, r: u64) -> u8 {
-        self.to_be_bytes()[r as usize]
+        ((self >> (56 - 8 * r)) & 0xff) as u8
     }
 
     fn with_byte(self, r: u64, byte: u8) -> u64 {
