@@ -78,8 +78,9 @@ impl<E: Element> Memory for Owned<E> {
         let i = (address / E::BYTES) as usize;
         self.held[i] = self.held[i].with_byte(address % E::BYTES, byte);
     }
-    // Through a slice: no write can then reach what the vector keeps of itself, so the compiler reads the numbers' place
-    // once and joins the writes.
+
+    // Through a slice: no write can then reach what the vector keeps of itself, so the compiler looks up once where the
+    // numbers stand, and joins the writes.
     fn write_bytes(&mut self, address: u64, digits: &[u8])
         requires { address + length digits.now ≤ length (owned_bytes E.spread self.old) }
         ensures value { owned_bytes E.spread self.new ≡ put_at (owned_bytes E.spread self.old) address (length digits.now) (value_at digits.now 0 (length digits.now)) }
