@@ -28,16 +28,6 @@ pub fn load_inside<M: Memory>(memory: &M, address: u64, width: Width) -> u64
     }
 }
 
-// Puts the bytes in their places from the address on, the last one first.
-fn scatter<M: Memory, const N: usize>(memory: &mut M, address: u64, bytes: [u8; N])
-    requires { address + N ≤ length (M.Memory.bytes memory.old) }
-    ensures { M.Memory.bytes memory.new ≡ put_at (M.Memory.bytes memory.old) address N (value_at bytes.entry 0 N) }
-{
-    for (i, byte) in bytes.iter().enumerate().rev() {
-        memory.write_inside(address + i as u64, *byte);
-    }
-}
-
 // Puts the low bytes of the value from the address on, the last byte first.
 pub fn store_inside<M: Memory>(memory: &mut M, address: u64, width: Width, value: u64)
     requires { address + width_bytes width ≤ length (M.Memory.bytes memory.old) }
@@ -45,12 +35,8 @@ pub fn store_inside<M: Memory>(memory: &mut M, address: u64, width: Width, value
 {
     match width {
         Width::Byte => memory.write_inside(address, (value & 0xff) as u8),
-        Width::Short => scatter(memory, address, ((value & 0xffff) as u16).to_be_bytes()),
-        Width::Long => scatter(
-            memory,
-            address,
-            ((value & 0xffff_ffff) as u32).to_be_bytes(),
-        ),
-        Width::Qword => scatter(memory, address, value.to_be_bytes()),
+        Width::Short => memory.write_bytes(address, &((value & 0xffff) as u16).to_be_bytes()),
+        Width::Long => memory.write_bytes(address, &((value & 0xffff_ffff) as u32).to_be_bytes()),
+        Width::Qword => memory.write_bytes(address, &value.to_be_bytes()),
     }
 }

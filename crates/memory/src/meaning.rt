@@ -1,5 +1,6 @@
 // The meaning that every make of a memory keeps: a list of bytes.
-ghost use Rattle.std.specs.Prelude.{◌≡◌, ℕ, ◌^◌, ◌<◌, ◌≤◌, List, length, slice_index, slice_set};
+ghost use Rattle.std.specs.Prelude.{◌≡◌, ℕ, ◌+◌, ◌^◌, ◌<◌, ◌≤◌, List, length, slice_index, slice_set};
+ghost use Rattle.memory.specs.Bytes.{value_at, put_at};
 
 // No memory has more bytes than this.
 pub(crate) const LIMIT: u64 = 0x1_0000_0000;
@@ -19,7 +20,7 @@ pub trait Memory {
     fn write(&mut self, address: u64, byte: u8)
         ensures value { bytes self.new ≡ slice_set (bytes self.old) address byte };
 
-    // The same where the memory is known to have the place. A further make need not write these two; one that does may
+    // The same where the memory is known to have the places. A further make need not write these three; one that does may
     // leave out the test of the address, which is what a run spends most of its time on.
     fn read_inside(&self, address: u64) -> u8
         requires { address < length (bytes self.now) }
@@ -33,6 +34,16 @@ pub trait Memory {
         ensures value { bytes self.new ≡ slice_set (bytes self.old) address byte }
     {
         self.write(address, byte);
+    }
+
+    // Several bytes, in their places from the address on, the last one first.
+    fn write_bytes(&mut self, address: u64, digits: &[u8])
+        requires { address + length digits.now ≤ length (bytes self.old) }
+        ensures value { bytes self.new ≡ put_at (bytes self.old) address (length digits.now) (value_at digits.now 0 (length digits.now)) }
+    {
+        for (i, digit) in digits.iter().enumerate().rev() {
+            self.write_inside(address + i as u64, *digit);
+        }
     }
 
     ghost short: { (m : Self) → length (bytes m) ≤ 2 ^ 32 };

@@ -1,6 +1,6 @@
 // A memory over numbers of one kind that are handed in.
-ghost use Rattle.std.specs.Prelude.{◌≡◌, ◌<◌, length, slice_set};
-ghost use Rattle.memory.specs.Bytes.{cut, past};
+ghost use Rattle.std.specs.Prelude.{◌≡◌, ◌+◌, ◌<◌, ◌≤◌, length, slice_set};
+ghost use Rattle.memory.specs.Bytes.{cut, past, value_at, put_at};
 ghost use Rattle.memory.specs.Makes.{owned_bytes};
 ghost use Rattle.memory.specs.Cuts.{cut_short};
 
@@ -77,5 +77,20 @@ impl<E: Element> Memory for Owned<E> {
     {
         let i = (address / E::BYTES) as usize;
         self.held[i] = self.held[i].with_byte(address % E::BYTES, byte);
+    }
+
+    // Through a slice: no write can then reach what the vector keeps of itself, so the compiler looks up once where the
+    // numbers stand, and joins the writes.
+    fn write_bytes(&mut self, address: u64, digits: &[u8])
+        requires { address + length digits.now ≤ length (owned_bytes E.spread self.old) }
+        ensures value { owned_bytes E.spread self.new ≡ put_at (owned_bytes E.spread self.old) address (length digits.now) (value_at digits.now 0 (length digits.now)) }
+        ensures rest { past (E.spread self.new.held.items) ≡ past (E.spread self.old.held.items) }
+    {
+        let held = self.held.as_mut_slice();
+        for (i, digit) in digits.iter().enumerate().rev() {
+            let at = address + i as u64;
+            let number = &mut held[(at / E::BYTES) as usize];
+            *number = number.with_byte(at % E::BYTES, *digit);
+        }
     }
 }

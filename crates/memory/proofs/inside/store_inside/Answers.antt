@@ -18,12 +18,12 @@ returns-in-Byte g c = at_width _ _ _ _ _ _ c.in-Byte.is
 
 pub returns-in-Short : goal.returns-in-Short
 returns-in-Short g c = at_width _ _ _ _ _ _ c.in-Short.is
-    (c.scatter.ensures ∙ put_bytes_of _ _ _ 2 _ (c.to_be_bytes.ensures ∙ to_be_2 _) ∙ put_masked _ _ 2 _ _ (and_mask c.args.value 16))
+    (c.write_bytes.ensures.value ∙ put_bytes_of _ _ _ 2 _ (c.to_be_bytes.ensures ∙ to_be_2 _) ∙ put_masked _ _ 2 _ _ (and_mask c.args.value 16))
 
 pub returns-in-Long : goal.returns-in-Long
 returns-in-Long g c = at_width _ _ _ _ _ _ c.in-Long.is
-    (c.scatter-in-Long.ensures ∙ put_bytes_of _ _ _ 4 _ (c.to_be_bytes-in-Long.ensures ∙ to_be_4 _) ∙ put_masked _ _ 4 _ _ (and_mask c.args.value 32))
+    (c.write_bytes-in-Long.ensures.value ∙ put_bytes_of _ _ _ 4 _ (c.to_be_bytes-in-Long.ensures ∙ to_be_4 _) ∙ put_masked _ _ 4 _ _ (and_mask c.args.value 32))
 
 pub returns-in-Qword : goal.returns-in-Qword
 returns-in-Qword g c = at_width _ _ _ _ _ _ c.in-Qword.is
-    (c.scatter-in-Qword.ensures ∙ put_bytes_of _ _ _ 8 _ (c.to_be_bytes-in-Qword.ensures ∙ to_be _))
+    (c.write_bytes-in-Qword.ensures.value ∙ put_bytes_of _ _ _ 8 _ (c.to_be_bytes-in-Qword.ensures ∙ to_be _))
