@@ -1,10 +1,9 @@
 -- Where a run stands, as a window and a bank hold it.
-use Rattle.std.specs.Prelude.{◌≡◌, ℕ, ◌+◌, ◌≤◌, List, Option, slice_set}
+use Rattle.std.specs.Prelude.{◌≡◌, ℕ, ◌+◌, ◌≤◌, List, slice_set}
 use Rattle.memory.specs.declared.meaning.Memory.{Ghosts}
 use Rattle.isa.specs.Opcodes.{Entry}
 use Rattle.isa.specs.Reading.{instruction_of}
 use Rattle.isa.specs.Steps.{Config, P, held, obeyed}
-use Rattle.isa.specs.declared.end.End.{End}
 use Rattle.window.specs.Windows.{parts_of}
 use Rattle.bank.specs.Banks.{words_of, lender}
 use Rattle.window.specs.Views.{seen}
@@ -30,6 +29,6 @@ abbrev pub Ready : {M : Type 0} {g : Ghosts M} → Processor M g → Type 0
 Ready p = held (config_of p) P + 10 ≤ p.window.extent.max + 1
 
 -- The processor has done the instruction of a table's entry at P.
-pub record Does {M : Type 0} {g : Ghosts M} (old : Processor M g) (e : Entry) (new : Processor M g) (end : Option End) : Type 0 where
-  pub end_is : end ≡ (obeyed (config_of old) (instruction_of e (config_of old).window (held (config_of old) P))).end
+pub record Does {M : Type 0} {g : Ghosts M} (old : Processor M g) (e : Entry) (new : Processor M g) : Type 0 where
+  pub end_is : new.ended ≡ (obeyed (config_of old) (instruction_of e (config_of old).window (held (config_of old) P))).end
   pub next : Reaches old new (obeyed (config_of old) (instruction_of e (config_of old).window (held (config_of old) P))).next

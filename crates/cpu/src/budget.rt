@@ -26,6 +26,7 @@ fn step<M: Memory>(memory: &mut M, extent: Extent, bank: &mut Bank<'_>) -> Optio
         window: Window { memory, extent },
         p: bank.get(Register::P),
         bank,
+        ended: None,
     };
     let ended = processor.step();
     let p = processor.p;
@@ -54,10 +55,11 @@ fn dash<M: Memory>(
         window: Window { memory, extent },
         p: bank.get(Register::P),
         bank,
+        ended: None,
     };
     let gone = processor.dash(count, budget);
-    let p = processor.p;
-    bank.set(Register::P, p);
+    let next = processor.p;
+    bank.set(Register::P, next);
     gone
 }
 

@@ -24,6 +24,8 @@ pub struct Processor<'m, 'b, 'w, M: Memory> {
     pub bank: &'b mut Bank<'w>,
     // P as it now is: each instruction moves it, so it does not stand in the bank, whose own is stale.
     pub p: u64,
+    // The end, where the last instruction ended the run.
+    pub ended: Option<End>,
 }
 
 impl<M: Memory> Processor<'_, '_, '_, M> {
@@ -137,20 +139,21 @@ impl<M: Memory> Processor<'_, '_, '_, M> {
         None
     }
 
-    // P moves on, the sources are read, and the effect follows; the end, where it ends the run. What an opcode's arm knows of
-    // the instruction stands for itself, so that it stays a constant.
+    // P moves on, the sources are read, and the effect follows. What an opcode's arm knows of the instruction stands for
+    // itself, so that it stays a constant.
     #[tactic(auto, using(crate::proofs::Passing::begun_is))]
-    fn obey(&mut self, operation: Operation, operands: Operands, length: u8) -> Option<End>
-        ensures end { result ≡ (obeyed (config_of self.old) (record { operation = operation; operands = operands; length = length })).end }
+    fn obey(&mut self, operation: Operation, operands: Operands, length: u8)
+        ensures end { self.new.ended ≡ (obeyed (config_of self.old) (record { operation = operation; operands = operands; length = length })).end }
         ensures next { Reaches self.old self.new (obeyed (config_of self.old) (record { operation = operation; operands = operands; length = length })).next }
     {
         let p = self.get(Register::P);
         self.set(Register::P, p.wrapping_add(u64::from(length)));
         let effect = self.weigh(operation, operands);
         let rest = self.settle(p, effect);
-        self.finish(rest)
+        self.ended = self.finish(rest);
     }
 
+    // The end, where the instruction ends the run.
     pub fn perform(&mut self, instruction: Instruction) -> Option<End>
         ensures end { result ≡ (obeyed (config_of self.old) instruction).end }
         ensures next { Reaches self.old self.new (obeyed (config_of self.old) instruction).next }
@@ -159,7 +162,8 @@ impl<M: Memory> Processor<'_, '_, '_, M> {
             instruction.operation,
             instruction.operands,
             instruction.length,
-        )
+        );
+        self.ended
     }
 
     // The instruction at P, read and performed, wherever it lies.
@@ -180,7 +184,8 @@ impl<M: Memory> Processor<'_, '_, '_, M> {
         ensures next { Reaches self.old self.new (stepped (config_of self.old)).next }
     {
         let opcode = self.window.opcode(self.get(Register::P));
-        do_row(self, opcode)
+        do_row(self, opcode);
+        self.ended
     }
 
     // Goes on as long as instructions lie in the window whole; the end, where one ends the run, and how many were begun.
@@ -210,8 +215,8 @@ impl<M: Memory> Rows for Processor<'_, '_, '_, M> {
     ghost does = { Does };
 
     #[tactic(auto, unfolding(isa::specs::Reading::instruction_of))]
-    fn row(&mut self, operation: Operation, form: Form, length: u8) -> Option<End> {
+    fn row(&mut self, operation: Operation, form: Form, length: u8) {
         let operands = self.window.operands(self.get(Register::P), form);
-        self.obey(operation, operands, length)
+        self.obey(operation, operands, length);
     }
 }

@@ -3,26 +3,23 @@
 ghost use Rattle.std.specs.Prelude.{◌≤◌};
 ghost use Rattle.isa.specs.Opcodes.{entry_of};
 
-use super::end::End;
 use super::form::Form;
 use super::operation::Operation;
 use super::table::TABLE;
 
 // What does the rows.
 pub trait Rows {
-    ghost use Rattle.std.specs.Prelude.{Option};
     ghost use Rattle.isa.specs.Opcodes.{Entry};
-    ghost use Rattle.isa.specs.declared.end.End.{End};
 
     // When a row may be done, and what doing it does.
     ghost ready: { Self → Type 0 };
 
-    ghost does: { Self → Entry → Self → Option End → Type 0 };
+    ghost does: { Self → Entry → Self → Type 0 };
 
-    // A row is handed in by parts, so that they stay constants.
-    fn row(&mut self, operation: Operation, form: Form, length: u8) -> Option<End>
+    // A row is handed in by parts, so that they stay constants, and nothing comes back, so that no arm waits for another.
+    fn row(&mut self, operation: Operation, form: Form, length: u8)
         requires { ready self.old }
-        ensures { does self.old (operation, form, length) self.new result };
+        ensures { does self.old (operation, form, length) self.new };
 }
 
 // An arm for each number of the list; every other opcode is left to a further function.
@@ -35,28 +32,28 @@ macro_rules! by_opcode {
     };
 }
 
-fn unknown<R: Rows>(rows: &mut R, opcode: u8) -> Option<End>
+fn unknown<R: Rows>(rows: &mut R, opcode: u8)
     requires ready { R.Rows.ready rows.old }
     requires lacking { 94 ≤ opcode }
-    ensures { R.Rows.does rows.old (entry_of opcode) rows.new result }
+    ensures { R.Rows.does rows.old (entry_of opcode) rows.new }
 {
     rows.row(Operation::Unknown, Form::Plain, 1)
 }
 
-fn high<R: Rows>(rows: &mut R, opcode: u8) -> Option<End>
+fn high<R: Rows>(rows: &mut R, opcode: u8)
     requires ready { R.Rows.ready rows.old }
     requires from { 64 ≤ opcode }
-    ensures { R.Rows.does rows.old (entry_of opcode) rows.new result }
+    ensures { R.Rows.does rows.old (entry_of opcode) rows.new }
 {
     by_opcode!(rows, opcode, unknown:
         64 65 66 67 68 69 70 71 72 73 74 75 76 77 78 79
         80 81 82 83 84 85 86 87 88 89 90 91 92 93)
 }
 
-fn middle<R: Rows>(rows: &mut R, opcode: u8) -> Option<End>
+fn middle<R: Rows>(rows: &mut R, opcode: u8)
     requires ready { R.Rows.ready rows.old }
     requires from { 32 ≤ opcode }
-    ensures { R.Rows.does rows.old (entry_of opcode) rows.new result }
+    ensures { R.Rows.does rows.old (entry_of opcode) rows.new }
 {
     by_opcode!(rows, opcode, high:
         32 33 34 35 36 37 38 39 40 41 42 43 44 45 46 47
@@ -64,9 +61,9 @@ fn middle<R: Rows>(rows: &mut R, opcode: u8) -> Option<End>
 }
 
 // Does the row of an opcode.
-pub fn do_row<R: Rows>(rows: &mut R, opcode: u8) -> Option<End>
+pub fn do_row<R: Rows>(rows: &mut R, opcode: u8)
     requires { R.Rows.ready rows.old }
-    ensures { R.Rows.does rows.old (entry_of opcode) rows.new result }
+    ensures { R.Rows.does rows.old (entry_of opcode) rows.new }
 {
     by_opcode!(rows, opcode, middle:
         0 1 2 3 4 5 6 7 8 9 10 11 12 13 14 15
