@@ -198,10 +198,10 @@ impl<M: Memory> Processor<'_, '_, '_, M> {
     {
         let mut count = count;
         while count < budget && self.window.extent.has_code(self.get(Register::P)) {
-            if let Some(end) = self.step_inside() {
-                return (Some(end), count + 1);
-            }
             count += 1;
+            if let Some(end) = self.step_inside() {
+                return (Some(end), count);
+            }
         }
         (None, count)
     }
