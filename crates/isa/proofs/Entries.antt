@@ -27,8 +27,8 @@ rule_known k d h =
     ∙ get_or-map (λ (e : Entry). 1 + operand_bytes e.1) opcodes k d 0 h
 
 -- an arm for opcode k does the entry that stands at k; the arm for every other does what stands for it
-pub arm_is : (D : Entry → Type 0) (k o : ℕ) (e : Entry) → e ≡ entry_of k → o ≡ k → D e → D (entry_of o)
-arm_is D k o e at is h = subst D (at ∙ ap (λ (j : ℕ). entry_of j) (sym is)) h
+pub arm_is : (D : Entry → Type 0) (k o : ℕ) (e : Entry) → D e → o ≡ k → e ≡ entry_of k → D (entry_of o)
+arm_is D k o e h is at = subst D (at ∙ ap (λ (j : ℕ). entry_of j) (sym is)) h
 
 pub arm_past : (D : Entry → Type 0) (o : ℕ) → 94 ≤ o → D unknown → D (entry_of o)
 arm_past D o h d = subst D (entry_past o h) d
