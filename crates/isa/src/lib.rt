@@ -1,7 +1,6 @@
 // The instruction set: operations, the table of opcodes, and reading an instruction from a window.
 #![tactic(auto)]
 
-mod arms;
 mod code;
 mod decoder;
 mod effect;
@@ -11,7 +10,6 @@ mod instruction;
 mod operation;
 mod table;
 
-pub use arms::{Rows, do_row};
 pub use code::Code;
 pub use decoder::{decode, read_operands};
 pub use effect::Effect;
@@ -19,4 +17,4 @@ pub use end::End;
 pub use form::Form;
 pub use instruction::{Instruction, Operands};
 pub use operation::Operation;
-pub use table::{Entry, entry};
+pub use table::{Entry, TABLE, entry};

@@ -1,11 +1,11 @@
 // Doing an opcode's row of the table with an arm for each opcode. In its arm the compiler knows the row, so that one jump
 // leads to all that the instruction does.
+#![tactic(auto)]
+
 ghost use Rattle.std.specs.Prelude.{◌≤◌};
 ghost use Rattle.isa.specs.Opcodes.{entry_of};
 
-use super::form::Form;
-use super::operation::Operation;
-use super::table::TABLE;
+use isa::{Form, Operation, TABLE};
 
 // What does the rows.
 pub trait Rows {

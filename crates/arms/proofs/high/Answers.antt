@@ -1,7 +1,7 @@
 use Rattle.std.proofs.Common.{refl, arith}
 use Rattle.isa.specs.Opcodes.{opcodes, entry_of}
 use Rattle.isa.proofs.Entries.{arm_is}
-use Rattle.isa.proofs.arms.high.Goals as goal
+use Rattle.arms.proofs.high.Goals as goal
 
 pub returns-in-64 : goal.returns-in-64
 unfolding entry_of opcodes

@@ -1,7 +1,7 @@
 use Rattle.std.proofs.Common.{refl, arith}
 use Rattle.isa.specs.Opcodes.{opcodes, entry_of}
 use Rattle.isa.proofs.Entries.{arm_is}
-use Rattle.isa.proofs.arms.middle.Goals as goal
+use Rattle.arms.proofs.middle.Goals as goal
 
 pub returns-in-32 : goal.returns-in-32
 unfolding entry_of opcodes

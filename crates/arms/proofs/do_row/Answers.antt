@@ -1,7 +1,7 @@
 use Rattle.std.proofs.Common.{refl, arith}
 use Rattle.isa.specs.Opcodes.{opcodes, entry_of}
 use Rattle.isa.proofs.Entries.{arm_is}
-use Rattle.isa.proofs.arms.do_row.Goals as goal
+use Rattle.arms.proofs.do_row.Goals as goal
 
 pub returns-in-0 : goal.returns-in-0
 unfolding entry_of opcodes
