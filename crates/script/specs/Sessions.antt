@@ -1,6 +1,8 @@
 -- What a command does to a session.
 use Rattle.std.specs.Prelude.{◌≡◌, ℕ, ◌⊎◌, List, [], ◌∷◌, ◌++◌, length, replicate, Some, None, Ok, Err, vec_items, codes, Option, Result, Vec}
 use Rattle.std.specs.declared.alloc.Global.{Global}
+use Rattle.answers.specs.declared.answer.Answer.{Answer}
+use Rattle.answers.specs.declared.answer.Answer.TheVariants as answer
 use Rattle.lines.specs.Hexadecimal.{hex_bytes}
 use Rattle.lines.specs.declared.command.Command.{Command}
 use Rattle.lines.specs.declared.command.Command.TheVariants.{Memory, Row, Lay, Make, Put, Set, Fetch, Get, Run, Last, Release}
@@ -14,8 +16,6 @@ use Rattle.plan.specs.Lays.{Lays}
 use Rattle.plan.specs.Plans.{rows_of}
 use Rattle.plan.specs.declared.ground.LayRefusal.{LayRefusal}
 use Rattle.script.specs.Stores.{store_bytes, made_size, machine_state}
-use Rattle.script.specs.declared.answer.Answer.{Answer}
-use Rattle.script.specs.declared.answer.Answer.TheVariants as answer
 use Rattle.script.specs.declared.machines.AnyMachine.{AnyMachine}
 use Rattle.script.specs.declared.session.Session.{Session}
 use Rattle.script.specs.declared.session.Stage.{Stage}
