@@ -1,4 +1,3 @@
-pub mod Stores
 pub mod Sessions
 pub mod Playing
 pub mod Lending

@@ -11,10 +11,10 @@ use Rattle.machine.specs.Calls.{Fetch, Filled}
 use Rattle.machine.specs.Outcomes.{Outcome, outcome}
 use Rattle.std.specs.declared.alloc.Global.{Global}
 use Rattle.machine.specs.declared.refusal.Refusal.{Refusal}
+use Rattle.makes.specs.Stores.{machine_state}
 use Rattle.script.specs.Sessions.{Performed, needs_machine, FetchTells}
 use Rattle.script.specs.declared.session.Trouble.{Trouble}
 use Rattle.script.specs.declared.session.Trouble.TheVariants.{NoRoom}
-use Rattle.script.specs.Stores.{machine_state}
 use Rattle.script.proofs.session.Session.fetch.Goals as goal
 
 pub returns-in-Err : goal.returns-in-Err
