@@ -1,9 +1,9 @@
 -- What a line of a script does.
 use Rattle.std.specs.Prelude.{ℕ, List, Some, None, Ok, Err, Option, Result}
+use Rattle.answers.specs.declared.answer.Answer.{Answer}
 use Rattle.lines.specs.Commands.{Asks, Silent, Unreadable}
 use Rattle.lines.specs.declared.command.Command.{Command}
 use Rattle.script.specs.Sessions.{Hindered, Performs, Same}
-use Rattle.script.specs.declared.answer.Answer.{Answer}
 use Rattle.script.specs.declared.play.Stop.{Stop}
 use Rattle.script.specs.declared.play.Stop.TheVariants.{Unread, Unperformed}
 use Rattle.script.specs.declared.session.Session.{Session}

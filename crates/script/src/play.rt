@@ -4,8 +4,8 @@ ghost use Rattle.lines.specs.Lines.{words_of};
 ghost use Rattle.script.specs.Playing.{Plays};
 ghost use Rattle.script.specs.declared.play.Stop.TheVariants.{Unread, Unperformed};
 
-use super::answer::Answer;
 use super::session::{Session, Trouble};
+use answers::Answer;
 use lines::{Fault, read_command};
 use std::alloc::Global;
 use std::io;

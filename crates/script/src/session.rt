@@ -7,10 +7,9 @@ ghost use Rattle.script.specs.Lending.{LendsMachine};
 ghost use Rattle.script.specs.declared.session.Stage.TheVariants as stage;
 ghost use Rattle.script.specs.declared.session.Trouble.TheVariants.{NoRoom};
 
-use super::answer::Answer;
-use super::machines::AnyMachine;
-use super::store::Store;
+use answers::Answer;
 use lines::{Command, MemoryMake, decode_hex};
+use makes::{AnyMachine, Store};
 use plan::{Plan, Row, lay};
 use std::alloc::{AllocError, AllocFailed, Global};
 use std::error::Error;

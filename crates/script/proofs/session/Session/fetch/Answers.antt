@@ -3,18 +3,18 @@ use borrow.Author.Tests.{tests}
 use lib.Seq.{take-append-le}
 use Rattle.std.specs.Vec.{with_items}
 use Rattle.std.proofs.lemmas.List.{take_all}
+use Rattle.answers.specs.declared.answer.Answer.{Answer}
+use Rattle.answers.specs.declared.answer.Answer.TheVariants as answer
 use Rattle.lines.specs.declared.command.Command.TheVariants as asked
 use Rattle.machine.specs.Answers.{filled_answer}
 use Rattle.machine.specs.Calls.{Fetch, Filled}
 use Rattle.machine.specs.Outcomes.{Outcome, outcome}
 use Rattle.std.specs.declared.alloc.Global.{Global}
 use Rattle.machine.specs.declared.refusal.Refusal.{Refusal}
+use Rattle.makes.specs.Stores.{machine_state}
 use Rattle.script.specs.Sessions.{Performed, needs_machine, FetchTells}
-use Rattle.script.specs.declared.answer.Answer.{Answer}
-use Rattle.script.specs.declared.answer.Answer.TheVariants as answer
 use Rattle.script.specs.declared.session.Trouble.{Trouble}
 use Rattle.script.specs.declared.session.Trouble.TheVariants.{NoRoom}
-use Rattle.script.specs.Stores.{machine_state}
 use Rattle.script.proofs.session.Session.fetch.Goals as goal
 
 pub returns-in-Err : goal.returns-in-Err

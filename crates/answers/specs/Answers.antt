@@ -3,8 +3,8 @@ use Rattle.std.specs.Prelude.{ℕ, ◌+◌, ◌/◌, ◌%◌, cond, List, [], �
 use Rattle.plan.specs.Grounds.{ground_number}
 use Rattle.isa.specs.Ends.{end_code}
 use Rattle.machine.specs.Refusals.{refusal_number}
-use Rattle.script.specs.declared.answer.Answer.{Answer}
-use Rattle.script.specs.declared.answer.Answer.TheVariants.{Size, Row, Accepted, LayRefused, Made, Refused, Fetched, Word, Ended, Latest, Released}
+use Rattle.answers.specs.declared.answer.Answer.{Answer}
+use Rattle.answers.specs.declared.answer.Answer.TheVariants.{Size, Row, Accepted, LayRefused, Made, Refused, Fetched, Word, Ended, Latest, Released}
 
 -- A digit below 16, and bytes as pairs of digits, both in lower case.
 abbrev pub hex_digit_lem : ℕ → ℕ

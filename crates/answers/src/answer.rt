@@ -1,6 +1,6 @@
 // The answer to a line, and how it is written.
 ghost use Rattle.std.specs.Prelude.{◌≡◌, IfOk, Some};
-ghost use Rattle.script.specs.Answers.{answer_text, hex_text, output_text};
+ghost use Rattle.answers.specs.Answers.{answer_text, hex_text, output_text};
 
 use machine::{Refusal, RunEnd};
 use plan::LayRefusal;

@@ -4,7 +4,7 @@ ghost use Rattle.machine.specs.Answers.{done_answer, ended_answer, filled_answer
 ghost use Rattle.machine.specs.Calls.{Put, Fetch, Set, Get, Run, Last};
 ghost use Rattle.machine.specs.Machines.{opening};
 ghost use Rattle.machine.specs.Outcomes.{Outcome};
-ghost use Rattle.script.specs.Stores.{store_bytes, machine_state};
+ghost use Rattle.makes.specs.Stores.{store_bytes, machine_state};
 
 use super::store::{Store, for_make, keep_make, map_make};
 use machine::{Machine, Refusal, RunEnd};
@@ -20,44 +20,44 @@ pub enum AnyMachine {
 }
 
 impl AnyMachine {
-    pub(crate) fn make(store: Store, plan: Plan) -> AnyMachine
+    pub fn make(store: Store, plan: Plan) -> AnyMachine
         ensures { machine_state result ≡ opening (store_bytes store) plan }
     {
         map_make!(Store, store, memory => AnyMachine, Machine::make(memory, plan))
     }
 
-    pub(crate) fn release(self) -> Store
+    pub fn release(self) -> Store
         ensures { store_bytes result ≡ (machine_state self).held }
     {
         map_make!(AnyMachine, self, machine => Store, machine.release())
     }
 
-    pub(crate) fn put(&mut self, k: u16, address: u64, bytes: &[u8]) -> Result<(), Refusal>
+    pub fn put(&mut self, k: u16, address: u64, bytes: &[u8]) -> Result<(), Refusal>
         ensures { Outcome (Put k address bytes.now) (machine_state self.old) (done_answer result) (machine_state self.new) }
     {
         for_make!(AnyMachine, self, machine => machine.put(k, address, bytes))
     }
 
-    pub(crate) fn fetch(&self, k: u16, address: u64, buffer: &mut [u8]) -> Result<(), Refusal>
+    pub fn fetch(&self, k: u16, address: u64, buffer: &mut [u8]) -> Result<(), Refusal>
         ensures outcome { Outcome (Fetch k address (length buffer.old)) (machine_state self.now) (filled_answer buffer.new result) (machine_state self.now) }
         ensures unfilled { is_err result ≡ true → buffer.new ≡ buffer.old }
     {
         for_make!(AnyMachine, self, machine => machine.fetch(k, address, buffer))
     }
 
-    pub(crate) fn spans(&self, k: u16, address: u64, size: u64) -> Result<(), Refusal>
+    pub fn spans(&self, k: u16, address: u64, size: u64) -> Result<(), Refusal>
         ensures { (bs : List ℕ) × Outcome (Fetch k address size) (machine_state self.now) (filled_answer bs result) (machine_state self.now) }
     {
         for_make!(AnyMachine, self, machine => machine.spans(k, address, size))
     }
 
-    pub(crate) fn set(&mut self, k: u16, index: u64, word: u64) -> Result<(), Refusal>
+    pub fn set(&mut self, k: u16, index: u64, word: u64) -> Result<(), Refusal>
         ensures { Outcome (Set k index word) (machine_state self.old) (done_answer result) (machine_state self.new) }
     {
         for_make!(AnyMachine, self, machine => machine.set(k, index, word))
     }
 
-    pub(crate) fn get(&self, k: u16, index: u64) -> Result<u64, Refusal>
+    pub fn get(&self, k: u16, index: u64) -> Result<u64, Refusal>
         ensures { Outcome (Get k index) (machine_state self.now) (word_answer result) (machine_state self.now) }
     {
         for_make!(AnyMachine, self, machine => machine.get(k, index))
@@ -65,14 +65,14 @@ impl AnyMachine {
 
     // A run with a work area of so many qwords. One that is not 258 is refused whatever it is, so none is made for it. Machine
     // and work area are this function's own: so the compiler knows that no store of a run changes where they lie.
-    pub(crate) fn run(self, k: u16, budget: u64, work: u64) -> (AnyMachine, Result<RunEnd, Refusal>)
+    pub fn run(self, k: u16, budget: u64, work: u64) -> (AnyMachine, Result<RunEnd, Refusal>)
         ensures { Outcome (Run k budget work) (machine_state self) (ended_answer result.1) (machine_state result.0) }
     {
         let length = if work == 258 { 258 } else { 0 };
         keep_make!(AnyMachine, self, machine => machine.run(k, budget, &mut [0u64; 258][..length]))
     }
 
-    pub(crate) fn last(&self, k: u16) -> Result<Option<(u8, u64)>, Refusal>
+    pub fn last(&self, k: u16) -> Result<Option<(u8, u64)>, Refusal>
         ensures { Outcome (Last k) (machine_state self.now) (latest_answer result) (machine_state self.now) }
     {
         for_make!(AnyMachine, self, machine => machine.last(k))

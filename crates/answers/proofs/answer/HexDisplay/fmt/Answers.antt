@@ -4,8 +4,8 @@ use Rattle.std.proofs.Output.{displays_on_ok_of_eq}
 use Rattle.std.proofs.lemmas.Fmt.{hex_byte}
 use Rattle.std.proofs.lemmas.Grind.{put_two}
 use Rattle.std.proofs.lemmas.List.{take_more}
-use Rattle.script.specs.Answers.{hex_digit_lem, hex_text}
-use Rattle.script.proofs.answer.HexDisplay.fmt.Goals as goal
+use Rattle.answers.specs.Answers.{hex_digit_lem, hex_text}
+use Rattle.answers.proofs.answer.HexDisplay.fmt.Goals as goal
 
 -- one byte more is two digits more
 hex_push : (bs : List ℕ) (b : ℕ) → hex_text bs ++ (hex_digit_lem (b / 16) ∷ hex_digit_lem (b % 16) ∷ []) ≡ hex_text (bs ++ b ∷ [])

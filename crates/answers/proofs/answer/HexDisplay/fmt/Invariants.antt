@@ -1,7 +1,7 @@
 use Rattle.std.proofs.Common.{take}
 use Rattle.std.specs.Fmt.{HasWritten, IsPlainFormatter}
-use Rattle.script.specs.Answers.{hex_text}
-use Rattle.script.proofs.answer.HexDisplay.fmt.Given as goal
+use Rattle.answers.specs.Answers.{hex_text}
+use Rattle.answers.proofs.answer.HexDisplay.fmt.Given as goal
 
 -- the bytes so far are written
 abbrev pub invariant-loop-b : goal.invariant-loop-b

@@ -5,10 +5,10 @@ use Rattle.machine.specs.States.{State}
 use Rattle.memory.specs.Makes.{flat_bytes, words_bytes, spliced_bytes}
 use Rattle.lines.specs.declared.command.MemoryMake.{MemoryMake}
 use Rattle.lines.specs.declared.command.MemoryMake.TheVariants as make
-use Rattle.script.specs.declared.machines.AnyMachine.{AnyMachine}
-use Rattle.script.specs.declared.machines.AnyMachine.TheVariants as any
-use Rattle.script.specs.declared.store.Store.{Store}
-use Rattle.script.specs.declared.store.Store.TheVariants.{Flat, Words, Spliced}
+use Rattle.makes.specs.declared.machines.AnyMachine.{AnyMachine}
+use Rattle.makes.specs.declared.machines.AnyMachine.TheVariants as any
+use Rattle.makes.specs.declared.store.Store.{Store}
+use Rattle.makes.specs.declared.store.Store.TheVariants.{Flat, Words, Spliced}
 
 abbrev pub store_bytes : Store → List ℕ
 store_bytes (Flat m) = flat_bytes m

@@ -1,6 +1,6 @@
 // The memory of a script, of whichever make was asked for.
 ghost use Rattle.std.specs.Prelude.{◌≡◌, length, replicate, IfOk};
-ghost use Rattle.script.specs.Stores.{store_bytes, made_size};
+ghost use Rattle.makes.specs.Stores.{store_bytes, made_size};
 
 use lines::MemoryMake;
 use memory::{Flat, Memory, Spliced, Words};
