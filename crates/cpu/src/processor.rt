@@ -12,7 +12,8 @@ ghost use Rattle.cpu.specs.declared.rest.Rest.TheVariants.{Nothing};
 
 use super::rest::Rest;
 use bank::{Bank, Register};
-use isa::{Effect, End, Form, Instruction, Operands, Operation, Rows, do_row};
+use arms::{Rows, do_row};
+use isa::{Effect, End, Form, Instruction, Operands, Operation};
 use memory::{Memory, Width};
 use window::Window;
 
