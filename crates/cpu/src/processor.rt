@@ -11,8 +11,8 @@ ghost use Rattle.cpu.specs.Configs.{left_of};
 ghost use Rattle.cpu.specs.declared.rest.Rest.TheVariants.{Nothing};
 
 use super::rest::Rest;
-use bank::{Bank, Register};
 use arms::{Rows, do_row};
+use bank::{Bank, Register};
 use isa::{Effect, End, Form, Instruction, Operands, Operation};
 use memory::{Memory, Width};
 use window::Window;

@@ -52,8 +52,8 @@ module _ (g : given.Over) (c : goal.After-unwrap_or g) where
   spent : c.loop-ended.ended ≡ None → c.args.budget ≤ c.loop-ended.count
   spent h =
       elim c.loop-ended-test.branch [
-        then-loop-ended-test+else-count-budget w ↦ omega arith
-      | else-loop-ended-test w ↦ absurd (false≢true (sym (ap (λ (o : Option End). is_some o) h) ∙ w.loop-ended-test.ensures))
+        | then-loop-ended-test+else-count-budget w ↦ omega arith
+        | else-loop-ended-test w ↦ absurd (false≢true (sym (ap (λ (o : Option End). is_some o) h) ∙ w.loop-ended-test.ensures))
       ]
 
   ends : record { end = unwrap_or c.loop-ended.ended Budget; count = c.loop-ended.count; last = config (g.M.Memory.bytes c.loop-ended.memory) c.args.extent c.loop-ended.bank } ≡ ran c.args.budget (config (g.M.Memory.bytes c.args.memory.now) c.args.extent c.args.bank.now)
