@@ -63,8 +63,8 @@ impl AnyMachine {
         for_make!(AnyMachine, self, machine => machine.get(k, index))
     }
 
-    // A run with a work area of so many qwords. One that is not 258 is refused whatever it is, so none is made for it. Machine
-    // and work area are this function's own: so the compiler knows that no store of a run changes where they lie.
+    // A run with a work area of so many qwords. One that is not 258 is refused whatever it is, so none is made for it. The
+    // machine comes back as it then is.
     pub fn run(self, k: u16, budget: u64, work: u64) -> (AnyMachine, Result<RunEnd, Refusal>)
         ensures { Outcome (Run k budget work) (machine_state self) (ended_answer result.1) (machine_state result.0) }
     {
