@@ -6,7 +6,7 @@ ghost use Rattle.machine.specs.Machines.{opening};
 ghost use Rattle.machine.specs.Outcomes.{Outcome};
 ghost use Rattle.makes.specs.Stores.{store_bytes, machine_state};
 
-use super::store::{Store, for_make, keep_make, map_make};
+use super::store::{Store, for_make, map_make};
 use machine::{Machine, Refusal, RunEnd};
 use memory::{Flat, Spliced, Words};
 use plan::Plan;
@@ -63,13 +63,12 @@ impl AnyMachine {
         for_make!(AnyMachine, self, machine => machine.get(k, index))
     }
 
-    // A run with a work area of so many qwords. One that is not 258 is refused whatever it is, so none is made for it. The
-    // machine comes back as it then is.
-    pub fn run(self, k: u16, budget: u64, work: u64) -> (AnyMachine, Result<RunEnd, Refusal>)
-        ensures { Outcome (Run k budget work) (machine_state self) (ended_answer result.1) (machine_state result.0) }
+    // A run with a work area of so many qwords. One that is not 258 is refused whatever it is, so none is made for it.
+    pub fn run(&mut self, k: u16, budget: u64, work: u64) -> Result<RunEnd, Refusal>
+        ensures { Outcome (Run k budget work) (machine_state self.old) (ended_answer result) (machine_state self.new) }
     {
         let length = if work == 258 { 258 } else { 0 };
-        keep_make!(AnyMachine, self, machine => machine.run(k, budget, &mut [0u64; 258][..length]))
+        for_make!(AnyMachine, self, machine => machine.run(k, budget, &mut [0u64; 258][..length]))
     }
 
     pub fn last(&self, k: u16) -> Result<Option<(u8, u64)>, Refusal>

@@ -32,28 +32,6 @@ macro_rules! map_make {
 
 pub(crate) use map_make;
 
-// Does something to what an enum of the makes holds, and gives the enum back with the result.
-macro_rules! keep_make {
-    ($kind:ident, $value:expr, $held:ident => $result:expr) => {
-        match $value {
-            $kind::Flat(mut $held) => {
-                let result = $result;
-                ($kind::Flat($held), result)
-            }
-            $kind::Words(mut $held) => {
-                let result = $result;
-                ($kind::Words($held), result)
-            }
-            $kind::Spliced(mut $held) => {
-                let result = $result;
-                ($kind::Spliced($held), result)
-            }
-        }
-    };
-}
-
-pub(crate) use keep_make;
-
 #[derive(Drop)]
 pub enum Store {
     Flat(Flat),
