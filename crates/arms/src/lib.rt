@@ -40,24 +40,92 @@ fn unknown<R: Rows>(rows: &mut R, opcode: u8)
     rows.row(Operation::Unknown, Form::Plain, 1)
 }
 
-fn high<R: Rows>(rows: &mut R, opcode: u8)
+fn rest<R: Rows>(rows: &mut R, opcode: u8)
     requires ready { R.Rows.ready rows.old }
-    requires from { 64 ≤ opcode }
+    requires from { 90 ≤ opcode }
     ensures { R.Rows.does rows.old (entry_of opcode) rows.new }
 {
-    by_opcode!(rows, opcode, unknown:
-        64 65 66 67 68 69 70 71 72 73 74 75 76 77 78 79
-        80 81 82 83 84 85 86 87 88 89 90 91 92 93)
+    by_opcode!(rows, opcode, unknown: 90 91 92 93)
 }
 
-fn middle<R: Rows>(rows: &mut R, opcode: u8)
+fn offsets<R: Rows>(rows: &mut R, opcode: u8)
     requires ready { R.Rows.ready rows.old }
-    requires from { 32 ≤ opcode }
+    requires from { 82 ≤ opcode }
     ensures { R.Rows.does rows.old (entry_of opcode) rows.new }
 {
-    by_opcode!(rows, opcode, high:
-        32 33 34 35 36 37 38 39 40 41 42 43 44 45 46 47
-        48 49 50 51 52 53 54 55 56 57 58 59 60 61 62 63)
+    by_opcode!(rows, opcode, rest: 82 83 84 85 86 87 88 89)
+}
+
+fn counts<R: Rows>(rows: &mut R, opcode: u8)
+    requires ready { R.Rows.ready rows.old }
+    requires from { 76 ≤ opcode }
+    ensures { R.Rows.does rows.old (entry_of opcode) rows.new }
+{
+    by_opcode!(rows, opcode, offsets: 76 77 78 79 80 81)
+}
+
+fn stack<R: Rows>(rows: &mut R, opcode: u8)
+    requires ready { R.Rows.ready rows.old }
+    requires from { 66 ≤ opcode }
+    ensures { R.Rows.does rows.old (entry_of opcode) rows.new }
+{
+    by_opcode!(rows, opcode, counts: 66 67 68 69 70 71 72 73 74 75)
+}
+
+fn jumps<R: Rows>(rows: &mut R, opcode: u8)
+    requires ready { R.Rows.ready rows.old }
+    requires from { 61 ≤ opcode }
+    ensures { R.Rows.does rows.old (entry_of opcode) rows.new }
+{
+    by_opcode!(rows, opcode, stack: 61 62 63 64 65)
+}
+
+fn widths<R: Rows>(rows: &mut R, opcode: u8)
+    requires ready { R.Rows.ready rows.old }
+    requires from { 51 ≤ opcode }
+    ensures { R.Rows.does rows.old (entry_of opcode) rows.new }
+{
+    by_opcode!(rows, opcode, jumps: 51 52 53 54 55 56 57 58 59 60)
+}
+
+fn divisions<R: Rows>(rows: &mut R, opcode: u8)
+    requires ready { R.Rows.ready rows.old }
+    requires from { 45 ≤ opcode }
+    ensures { R.Rows.does rows.old (entry_of opcode) rows.new }
+{
+    by_opcode!(rows, opcode, widths: 45 46 47 48 49 50)
+}
+
+fn sums<R: Rows>(rows: &mut R, opcode: u8)
+    requires ready { R.Rows.ready rows.old }
+    requires from { 36 ≤ opcode }
+    ensures { R.Rows.does rows.old (entry_of opcode) rows.new }
+{
+    by_opcode!(rows, opcode, divisions: 36 37 38 39 40 41 42 43 44)
+}
+
+fn bits<R: Rows>(rows: &mut R, opcode: u8)
+    requires ready { R.Rows.ready rows.old }
+    requires from { 26 ≤ opcode }
+    ensures { R.Rows.does rows.old (entry_of opcode) rows.new }
+{
+    by_opcode!(rows, opcode, sums: 26 27 28 29 30 31 32 33 34 35)
+}
+
+fn indirect<R: Rows>(rows: &mut R, opcode: u8)
+    requires ready { R.Rows.ready rows.old }
+    requires from { 18 ≤ opcode }
+    ensures { R.Rows.does rows.old (entry_of opcode) rows.new }
+{
+    by_opcode!(rows, opcode, bits: 18 19 20 21 22 23 24 25)
+}
+
+fn direct<R: Rows>(rows: &mut R, opcode: u8)
+    requires ready { R.Rows.ready rows.old }
+    requires from { 10 ≤ opcode }
+    ensures { R.Rows.does rows.old (entry_of opcode) rows.new }
+{
+    by_opcode!(rows, opcode, indirect: 10 11 12 13 14 15 16 17)
 }
 
 // Does the row of an opcode.
@@ -65,7 +133,5 @@ pub fn do_row<R: Rows>(rows: &mut R, opcode: u8)
     requires { R.Rows.ready rows.old }
     ensures { R.Rows.does rows.old (entry_of opcode) rows.new }
 {
-    by_opcode!(rows, opcode, middle:
-        0 1 2 3 4 5 6 7 8 9 10 11 12 13 14 15
-        16 17 18 19 20 21 22 23 24 25 26 27 28 29 30 31)
+    by_opcode!(rows, opcode, direct: 0 1 2 3 4 5 6 7 8 9)
 }

@@ -21,7 +21,7 @@ pub trait Memory {
         ensures value { bytes self.new ≡ slice_set (bytes self.old) address byte };
 
     // The same where the memory is known to have the places. A further make need not write these three; one that does may
-    // leave out the test of the address, which is what a run spends most of its time on.
+    // leave out the test of the address.
     fn read_inside(&self, address: u64) -> u8
         requires { address < length (bytes self.now) }
         ensures { result ≡ slice_index (bytes self.now) address }
