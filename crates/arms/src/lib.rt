@@ -5,7 +5,7 @@
 ghost use Rattle.std.specs.Prelude.{◌≤◌};
 ghost use Rattle.isa.specs.Opcodes.{entry_of};
 
-use isa::{Form, Operation, TABLE};
+use isa::{Form, Operation, entry};
 
 // What does the rows.
 pub trait Rows {
@@ -22,14 +22,13 @@ pub trait Rows {
         ensures { does self.old (operation, form, length) self.new };
 }
 
-// An arm for each number of the list; every other opcode is left to a further function.
-macro_rules! by_opcode {
-    ($rows:ident, $opcode:ident, $others:ident: $($k:literal)*) => {
-        match $opcode {
-            $($k => $rows.row(TABLE[$k].0, TABLE[$k].1, TABLE[$k].2),)*
-            _ => $others($rows, $opcode),
-        }
-    };
+// Does the row of an opcode that is a constant.
+fn arm<R: Rows, const K: u8>(rows: &mut R)
+    requires { R.Rows.ready rows.old }
+    ensures { R.Rows.does rows.old (entry_of K) rows.new }
+{
+    let (operation, form, length) = entry(K);
+    rows.row(operation, form, length)
 }
 
 fn unknown<R: Rows>(rows: &mut R, opcode: u8)
@@ -40,92 +39,14 @@ fn unknown<R: Rows>(rows: &mut R, opcode: u8)
     rows.row(Operation::Unknown, Form::Plain, 1)
 }
 
-fn rest<R: Rows>(rows: &mut R, opcode: u8)
-    requires ready { R.Rows.ready rows.old }
-    requires from { 90 ≤ opcode }
-    ensures { R.Rows.does rows.old (entry_of opcode) rows.new }
-{
-    by_opcode!(rows, opcode, unknown: 90 91 92 93)
-}
-
-fn offsets<R: Rows>(rows: &mut R, opcode: u8)
-    requires ready { R.Rows.ready rows.old }
-    requires from { 82 ≤ opcode }
-    ensures { R.Rows.does rows.old (entry_of opcode) rows.new }
-{
-    by_opcode!(rows, opcode, rest: 82 83 84 85 86 87 88 89)
-}
-
-fn counts<R: Rows>(rows: &mut R, opcode: u8)
-    requires ready { R.Rows.ready rows.old }
-    requires from { 76 ≤ opcode }
-    ensures { R.Rows.does rows.old (entry_of opcode) rows.new }
-{
-    by_opcode!(rows, opcode, offsets: 76 77 78 79 80 81)
-}
-
-fn stack<R: Rows>(rows: &mut R, opcode: u8)
-    requires ready { R.Rows.ready rows.old }
-    requires from { 66 ≤ opcode }
-    ensures { R.Rows.does rows.old (entry_of opcode) rows.new }
-{
-    by_opcode!(rows, opcode, counts: 66 67 68 69 70 71 72 73 74 75)
-}
-
-fn jumps<R: Rows>(rows: &mut R, opcode: u8)
-    requires ready { R.Rows.ready rows.old }
-    requires from { 61 ≤ opcode }
-    ensures { R.Rows.does rows.old (entry_of opcode) rows.new }
-{
-    by_opcode!(rows, opcode, stack: 61 62 63 64 65)
-}
-
-fn widths<R: Rows>(rows: &mut R, opcode: u8)
-    requires ready { R.Rows.ready rows.old }
-    requires from { 51 ≤ opcode }
-    ensures { R.Rows.does rows.old (entry_of opcode) rows.new }
-{
-    by_opcode!(rows, opcode, jumps: 51 52 53 54 55 56 57 58 59 60)
-}
-
-fn divisions<R: Rows>(rows: &mut R, opcode: u8)
-    requires ready { R.Rows.ready rows.old }
-    requires from { 45 ≤ opcode }
-    ensures { R.Rows.does rows.old (entry_of opcode) rows.new }
-{
-    by_opcode!(rows, opcode, widths: 45 46 47 48 49 50)
-}
-
-fn sums<R: Rows>(rows: &mut R, opcode: u8)
-    requires ready { R.Rows.ready rows.old }
-    requires from { 36 ≤ opcode }
-    ensures { R.Rows.does rows.old (entry_of opcode) rows.new }
-{
-    by_opcode!(rows, opcode, divisions: 36 37 38 39 40 41 42 43 44)
-}
-
-fn bits<R: Rows>(rows: &mut R, opcode: u8)
-    requires ready { R.Rows.ready rows.old }
-    requires from { 26 ≤ opcode }
-    ensures { R.Rows.does rows.old (entry_of opcode) rows.new }
-{
-    by_opcode!(rows, opcode, sums: 26 27 28 29 30 31 32 33 34 35)
-}
-
-fn indirect<R: Rows>(rows: &mut R, opcode: u8)
-    requires ready { R.Rows.ready rows.old }
-    requires from { 18 ≤ opcode }
-    ensures { R.Rows.does rows.old (entry_of opcode) rows.new }
-{
-    by_opcode!(rows, opcode, bits: 18 19 20 21 22 23 24 25)
-}
-
-fn direct<R: Rows>(rows: &mut R, opcode: u8)
-    requires ready { R.Rows.ready rows.old }
-    requires from { 10 ≤ opcode }
-    ensures { R.Rows.does rows.old (entry_of opcode) rows.new }
-{
-    by_opcode!(rows, opcode, indirect: 10 11 12 13 14 15 16 17)
+// An arm for each number of the list.
+macro_rules! by_opcode {
+    ($rows:ident, $opcode:ident: $($k:literal)*) => {
+        match $opcode {
+            $($k => arm::<R, $k>($rows),)*
+            _ => unknown($rows, $opcode),
+        }
+    };
 }
 
 // Does the row of an opcode.
@@ -133,5 +54,11 @@ pub fn do_row<R: Rows>(rows: &mut R, opcode: u8)
     requires { R.Rows.ready rows.old }
     ensures { R.Rows.does rows.old (entry_of opcode) rows.new }
 {
-    by_opcode!(rows, opcode, direct: 0 1 2 3 4 5 6 7 8 9)
+    by_opcode!(rows, opcode:
+        0 1 2 3 4 5 6 7 8 9 10 11 12 13 14 15
+        16 17 18 19 20 21 22 23 24 25 26 27 28 29 30 31
+        32 33 34 35 36 37 38 39 40 41 42 43 44 45 46 47
+        48 49 50 51 52 53 54 55 56 57 58 59 60 61 62 63
+        64 65 66 67 68 69 70 71 72 73 74 75 76 77 78 79
+        80 81 82 83 84 85 86 87 88 89 90 91 92 93)
 }

@@ -1,5 +1,5 @@
 -- The table's entry of an opcode, and the rule that every entry keeps.
-use Rattle.std.proofs.Common.{◌≡◌, ℕ, ◌+◌, ◌<◌, ◌≤◌, List, map, get_or, sym, refl, ap, subst, ◌∙◌}
+use Rattle.std.proofs.Common.{◌≡◌, ℕ, ◌+◌, ◌<◌, ◌≤◌, List, map, get_or, sym, refl, ap, ◌∙◌}
 use Rattle.std.proofs.lemmas.List.{get_or_default, get_or-map, get_or_past}
 use Rattle.isa.specs.Opcodes.{Entry, opcodes, unknown, entry_of}
 use Rattle.isa.specs.Reading.{operand_bytes}
@@ -25,10 +25,3 @@ rule_known k d h =
     sym (get_or-map (λ (e : Entry). e.2) opcodes k d 0 h)
     ∙ ap (λ (ns : List ℕ). get_or ns k 0) ruled
     ∙ get_or-map (λ (e : Entry). 1 + operand_bytes e.1) opcodes k d 0 h
-
--- an arm for opcode k does the entry that stands at k; the arm for every other does what stands for it
-pub arm_is : (D : Entry → Type 0) (k o : ℕ) (e : Entry) → D e → o ≡ k → e ≡ entry_of k → D (entry_of o)
-arm_is D k o e h is at = subst D (at ∙ ap (λ (j : ℕ). entry_of j) (sym is)) h
-
-pub arm_past : (D : Entry → Type 0) (o : ℕ) → 94 ≤ o → D unknown → D (entry_of o)
-arm_past D o h d = subst D (entry_past o h) d

@@ -17,4 +17,4 @@ pub use end::End;
 pub use form::Form;
 pub use instruction::{Instruction, Operands};
 pub use operation::Operation;
-pub use table::{Entry, TABLE, entry};
+pub use table::{Entry, entry};

@@ -11,7 +11,7 @@ use memory::Width::{Byte, Long, Qword, Short};
 pub type Entry = (Operation, Form, u8);
 
 // As long as the instruction set has it, and never changed.
-pub static TABLE: [Entry; 94] = [
+static TABLE: [Entry; 94] = [
     (Operation::Halt, Form::Plain, 1),
     (Operation::Nop, Form::Plain, 1),
     (Operation::BecomeUser, Form::Five, 6),
