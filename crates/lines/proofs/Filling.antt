@@ -1,6 +1,9 @@
 -- Words that fill operands, one after the other.
-use Rattle.std.proofs.Common.{◌≡◌, ℕ, suc, ◌+◌, ◌<◌, ◌≤◌, ◌≢◌, List, [], ◌∷◌, length, get_or, drop, set, sym, ap, ◌∙◌, subst, add-one, arith, length-drop, length-set, drop-cons, get_or-set_other, get_or-set_same, below_more}
-use Rattle.lines.specs.Operands.{Filled, Gives}
+use Rattle.std.proofs.Common.{◌≡◌, ℕ, zero, suc, ◌+◌, ◌<◌, ◌≤◌, ◌≢◌, List, [], ◌∷◌, length, get_or, drop, set, sym, refl, ap, ◌∙◌, subst, inl, inr, add-one, arith, length-drop, length-set, drop-cons, get_or-set_other, get_or-set_same, below_more}
+use Rattle.std.proofs.lemmas.List.{drop_all}
+use Rattle.lines.specs.Faulty.{NextFails, OperandsFail}
+use Rattle.lines.specs.Operands.{Gives}
+use Rattle.lines.specs.declared.fault.Fault.{Fault}
 use Rattle.lines.specs.declared.operand.Operand.{Operand}
 use Rattle.lines.specs.declared.operand.Operand.TheVariants.{N}
 
@@ -31,6 +34,23 @@ module _ (os : List Operand) (ws : List (List ℕ)) (i : ℕ) where
             (subst (λ (v : List ℕ). Gives (get_or os i N) v n) (sym head.1) given)),
       )
 
-  -- no words fill the operands if the next one gives no value
-  pub none_filled : (left : List (List ℕ)) → i < length os → drop i ws ≡ left → ((w : List ℕ) (vs : List (List ℕ)) (n : ℕ) → left ≡ w ∷ vs → Gives (get_or os i N) w n → ⊥) → (ns : List ℕ) → Filled os ws ns → ⊥
-  none_filled left l here none ns (long, all) = none _ _ _ (sym here ∙ drop-cons ws i [] (omega arith)) (all i l)
+-- where the first i operands have their words, what fails behind these fails
+fails_behind : (R : List (List ℕ) → Fault → Type 0) (f : Fault) (i : ℕ) (os : List Operand) (ws : List (List ℕ)) → i ≤ length os → i ≤ length ws → ((k : ℕ) → k < i → (n : ℕ) × Gives (get_or os k N) (get_or ws k []) n) → OperandsFail (drop i os) R (drop i ws) f → OperandsFail os R ws f
+fails_behind R f zero os ws l m fit h = h
+fails_behind R f (suc i) [] ws l m fit h = absurd (omega arith)
+fails_behind R f (suc i) (o ∷ os) [] l m fit h = absurd (omega arith)
+fails_behind R f (suc i) (o ∷ os) (w ∷ ws) l m fit h =
+    inr (w, ws, (fit 0 (omega arith)).0, refl, (fit 0 (omega arith)).1, fails_behind R f i os ws (omega arith) (omega arith) (λ k less. fit (suc k) (omega arith)) h)
+
+module _ (R : List (List ℕ) → Fault → Type 0) (f : Fault) (os : List Operand) (ws : List (List ℕ)) (ns : List ℕ) (i : ℕ) (short : i ≤ length ws) (so_far : FilledTo i os ws ns) where
+  -- the next operand gets no value
+  pub next_fails : (left : List (List ℕ)) → i < length os → drop i ws ≡ left → NextFails (get_or os i N) left f → OperandsFail os R ws f
+  next_fails left l here fails =
+      let head : OperandsFail (get_or os i N ∷ drop (suc i) os) R (drop i ws) f = inl (rw (sym here) at fails) in
+      fails_behind R f i os ws (omega arith) short (λ k h. (get_or ns k 0, so_far k h)) (subst (λ (ps : List Operand). OperandsFail ps R (drop i ws) f) (sym (drop-cons os i N l)) head)
+
+  -- what stands behind the last one fails
+  pub rest_fails : (left : List (List ℕ)) → i ≡ length os → drop i ws ≡ left → R left f → OperandsFail os R ws f
+  rest_fails left l here fails =
+      let head : OperandsFail [] R (drop i ws) f = rw (sym here) at fails in
+      fails_behind R f i os ws (omega arith) short (λ k h. (get_or ns k 0, so_far k h)) (subst (λ (ps : List Operand). OperandsFail ps R (drop i ws) f) (sym (drop_all i os (omega arith))) head)

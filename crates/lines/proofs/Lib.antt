@@ -1,7 +1,6 @@
-pub mod Calls
+pub mod Excluding
 pub mod Filling
 pub mod Numbers
 pub mod Rests
-pub mod Silence
 pub mod Splitting
 pub mod Unpacking

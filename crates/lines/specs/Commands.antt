@@ -2,6 +2,7 @@
 use Rattle.std.specs.Prelude.{◌≡◌, ℕ, List, [], ◌∷◌, Some, None, Ok, Err, Option, Result, slice_index}
 use Rattle.std.specs.Borrow.{Bor}
 use Rattle.plan.specs.declared.row.Row.{Row}
+use Rattle.lines.specs.Faulty.{BehindFails, Faulty}
 use Rattle.lines.specs.Hexadecimal.{HexOperand}
 use Rattle.lines.specs.Keywords.{command_text, make_text}
 use Rattle.lines.specs.Operands.{Filled, FilledOr, Gives}
@@ -53,7 +54,7 @@ Behind first.Release ws c = (c ≡ command.Release) × (ws ≡ [])
 -- What reading the words behind the name of a command answers.
 abbrev pub ReadsRest : CommandWord → List (List ℕ) → Result Command Fault → Type 0
 ReadsRest k ws (Ok c) = Behind k ws c
-ReadsRest k ws (Err fault) = (c : Command) → Behind k ws c → ⊥
+ReadsRest k ws (Err fault) = BehindFails k ws fault
 
 -- The words of a line that ask for a command.
 abbrev pub Asks : List (List ℕ) → Command → Type 0
@@ -68,8 +69,8 @@ Silent (w ∷ ws) = slice_index w 0 ≡ 35
 abbrev pub Unreadable : List (List ℕ) → Type 0
 Unreadable words = (Silent words → ⊥) × ((c : Command) → Asks words c → ⊥)
 
--- What reading a line answers.
+-- What reading a line answers. A line that cannot be read is answered with its first fault.
 abbrev pub Reads : List (List ℕ) → Result (Option Command) Fault → Type 0
 Reads words (Ok None) = Silent words
 Reads words (Ok (Some c)) = Asks words c
-Reads words (Err fault) = Unreadable words
+Reads words (Err fault) = Unreadable words × Faulty words fault

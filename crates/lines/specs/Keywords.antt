@@ -2,6 +2,7 @@
 use Rattle.std.specs.Prelude.{◌≡◌, ◌≢◌, ℕ, List, Result, codes, MatchResult}
 use Rattle.std.specs.Borrow.{Bor}
 use Rattle.lines.specs.declared.fault.Fault.{Fault}
+use Rattle.lines.specs.declared.fault.Fault.TheVariants.{NoSuchCommand, NoSuchMake}
 use Rattle.lines.specs.declared.keyword.CommandWord.{CommandWord}
 use Rattle.lines.specs.declared.keyword.CommandWord.TheVariants.{Memory, Row, Lay, Make, Put, Set, Fetch, Get, Run, Last, Release}
 use Rattle.lines.specs.declared.keyword.MakeWord.{MakeWord}
@@ -27,7 +28,7 @@ make_text Spliced = codes "spliced"
 
 -- What reading a word as the name of a command, and as that of a make, answers.
 abbrev pub NamesCommand : Bor (List ℕ) → Result CommandWord Fault → Type 0
-NamesCommand word r = MatchResult r (λ k. word.now ≡ command_text k) (λ _. (k : CommandWord) → word.now ≢ command_text k)
+NamesCommand word r = MatchResult r (λ k. word.now ≡ command_text k) (λ fault. (fault ≡ NoSuchCommand word) × ((k : CommandWord) → word.now ≢ command_text k))
 
 abbrev pub NamesMake : Bor (List ℕ) → Result MakeWord Fault → Type 0
-NamesMake word r = MatchResult r (λ k. word.now ≡ make_text k) (λ _. (k : MakeWord) → word.now ≢ make_text k)
+NamesMake word r = MatchResult r (λ k. word.now ≡ make_text k) (λ fault. (fault ≡ NoSuchMake word) × ((k : MakeWord) → word.now ≢ make_text k))

@@ -1,6 +1,6 @@
 // Numbers as a script writes them.
 ghost use Rattle.std.specs.Prelude.{◌≡◌, ℕ, ◌+◌, ◌*◌, ◌^◌, ◌<◌, ◌≤◌, MatchResult, SomeIff};
-ghost use Rattle.lines.specs.Numerals.{digit_of_lem, Numeral, Digits, value_in_lem};
+ghost use Rattle.lines.specs.Numerals.{digit_of_lem, Means, Numeral, WhyNot, Written};
 
 // Why a word is no number.
 #[derive(Clone, Copy, PartialEq, Eq, Debug)]
@@ -27,7 +27,7 @@ fn with_digit(value: u64, base: u64, digit: u64) -> Option<u64>
 // and takes a sign too.
 fn value_in(base: u64, digits: &[u8]) -> Result<u64, NoNumber>
     requires { base ≤ 16 }
-    ensures { MatchResult result (λ n. (n < 2 ^ 64) × Digits base digits.now × (value_in_lem base digits.now ≡ n)) (λ _. Digits base digits.now → 2 ^ 64 ≤ value_in_lem base digits.now) }
+    ensures { MatchResult result (λ n. (n < 2 ^ 64) × Means base digits.now n) (λ why. WhyNot (Means base digits.now) why) }
 {
     if digits.is_empty() {
         return Err(NoNumber::NotANumber);
@@ -44,7 +44,7 @@ fn value_in(base: u64, digits: &[u8]) -> Result<u64, NoNumber>
 
 // The number that the word is written for: decimal digits, or 0x and hexadecimal digits.
 pub(crate) fn numeral(word: &[u8]) -> Result<u64, NoNumber>
-    ensures { MatchResult result (λ n. Numeral word.now n) (λ _. (n : ℕ) → Numeral word.now n → ⊥) }
+    ensures { MatchResult result (λ n. Numeral word.now n) (λ why. WhyNot (Written word.now) why) }
 {
     match word {
         [b'0', b'x', digits @ ..] => value_in(16, digits),

@@ -1,6 +1,7 @@
 // Reading the operands that stand behind the fixed words of a line.
-ghost use Rattle.std.specs.Prelude.{◌≡◌, ℕ, List, [], ◌∷◌, Decides, MatchResult, ◌≢◌};
-ghost use Rattle.lines.specs.Hexadecimal.{Hex};
+ghost use Rattle.std.specs.Prelude.{◌≡◌, ℕ, List, [], ◌∷◌, Decides, MatchResult};
+ghost use Rattle.lines.specs.Faulty.{BytesFail, EndFails, LastFails, Misfits, NextFails, OperandsFail};
+ghost use Rattle.lines.specs.Hexadecimal.{Hex, HexOperand};
 ghost use Rattle.lines.specs.Operands.{Filled, FilledOr, Gives};
 
 use super::digits::{NoNumber, digit_of, numeral};
@@ -10,7 +11,7 @@ use super::scanner::Scanner;
 
 // A word as the value of an operand.
 fn value_of(word: &[u8], operand: Operand) -> Result<u64, Fault<'_>>
-    ensures { MatchResult result (λ n. Gives operand word.now n) (λ _. (n : ℕ) → Gives operand word.now n → ⊥) }
+    ensures { MatchResult result (λ n. Gives operand word.now n) (λ fault. Misfits operand word.now fault) }
 {
     let n = numeral(word).map_err(|e| match e {
         NoNumber::NotANumber => Fault::NotANumber(operand, word),
@@ -24,7 +25,7 @@ fn value_of(word: &[u8], operand: Operand) -> Result<u64, Fault<'_>>
 
 // The next word as the value of an operand.
 pub(crate) fn number<'a>(words: &mut Scanner<'a>, operand: Operand) -> Result<u64, Fault<'a>>
-    ensures { MatchResult result (λ n. (w : List ℕ) × (words.old ≡ w ∷ words.new) × Gives operand w n) (λ _. (w : List ℕ) (ws : List (List ℕ)) (n : ℕ) → words.old ≡ w ∷ ws → Gives operand w n → ⊥) }
+    ensures { MatchResult result (λ n. (w : List ℕ) × (words.old ≡ w ∷ words.new) × Gives operand w n) (λ fault. NextFails operand words.old fault) }
 {
     let word = words.next().ok_or(Fault::Missing(operand))?;
     value_of(word, operand)
@@ -32,7 +33,7 @@ pub(crate) fn number<'a>(words: &mut Scanner<'a>, operand: Operand) -> Result<u6
 
 // The line ends here. (A match: `map_or` with an `Ok` outside and an `Err` inside would hide which of the two is the fault.)
 pub(crate) fn end<'a>(words: &mut Scanner<'a>) -> Result<(), Fault<'a>>
-    ensures { MatchResult result (λ _. words.old ≡ []) (λ _. words.old ≢ []) }
+    ensures { MatchResult result (λ _. words.old ≡ []) (λ fault. EndFails words.old fault) }
 {
     match words.next() {
         Some(word) => Err(Fault::WordTooMany(word)),
@@ -46,7 +47,7 @@ pub(crate) fn number_or<'a>(
     operand: Operand,
     otherwise: u64,
 ) -> Result<u64, Fault<'a>>
-    ensures { MatchResult result (λ n. FilledOr operand otherwise words.old n) (λ _. (n : ℕ) → FilledOr operand otherwise words.old n → ⊥) }
+    ensures { MatchResult result (λ n. FilledOr operand otherwise words.old n) (λ fault. LastFails operand words.old fault) }
 {
     let Some(word) = words.next() else {
         return Ok(otherwise);
@@ -61,7 +62,7 @@ pub(crate) fn numbers<'a, const N: usize>(
     words: &mut Scanner<'a>,
     operands: [Operand; N],
 ) -> Result<[u64; N], Fault<'a>>
-    ensures { MatchResult result (λ ns. Filled operands.entry words.old ns) (λ _. (ns : List ℕ) → Filled operands.entry words.old ns → ⊥) }
+    ensures { MatchResult result (λ ns. Filled operands.entry words.old ns) (λ fault. OperandsFail operands.entry EndFails words.old fault) }
 {
     // By index: `try_map` of an array says nothing of the order of its calls, and a `zip` with `iter_mut` nothing of the values.
     let mut values = [0; N];
@@ -73,8 +74,22 @@ pub(crate) fn numbers<'a, const N: usize>(
 }
 
 // Whether the word is pairs of hexadecimal digits.
-pub(crate) fn is_hex(word: &[u8]) -> bool
+fn is_hex(word: &[u8]) -> bool
     ensures { Decides result (Hex word.now) }
 {
     word.len() % 2 == 0 && word.iter().all(|b| digit_of(*b).is_some())
+}
+
+// The rest of the line as bytes in hexadecimal, which may be left out, and no more.
+pub(crate) fn hex_or_none<'a>(words: &mut Scanner<'a>) -> Result<&'a [u8], Fault<'a>>
+    ensures { MatchResult result (λ hex. HexOperand words.old hex.now) (λ fault. BytesFail words.old fault) }
+{
+    let Some(word) = words.next() else {
+        return Ok(b"");
+    };
+    if !is_hex(word) {
+        return Err(Fault::NotBytes(word));
+    }
+    end(words)?;
+    Ok(word)
 }

@@ -1,16 +1,15 @@
 // Reading a line as a command.
 ghost use Rattle.std.specs.Prelude.{MatchResult};
 ghost use Rattle.lines.specs.Commands.{AsksMake, AsksRow, Reads, ReadsRest};
+ghost use Rattle.lines.specs.Faulty.{BehindFails, MemoryFails};
 ghost use Rattle.lines.specs.Lines.{words_of};
-ghost use Rattle.lines.specs.declared.command.MemoryMake.{MemoryMake as Asked};
-ghost use Rattle.plan.specs.declared.row.Row.{Row as Given};
 ghost use Rattle.lines.specs.declared.keyword.CommandWord.TheVariants as first;
 
 use super::command::{Command, MemoryMake};
 use super::fault::Fault;
 use super::keyword::{CommandWord, MakeWord};
 use super::operand::Operand;
-use super::operands::{end, is_hex, number, number_or, numbers};
+use super::operands::{end, hex_or_none, number, number_or, numbers};
 use super::scanner::Scanner;
 use plan::Row;
 
@@ -19,7 +18,7 @@ const WORK: u64 = 258;
 
 // The rest of a line that begins with `memory`. (By `?` in each arm: by `map` three of its goals stayed open.)
 fn read_make<'a>(words: &mut Scanner<'a>) -> Result<MemoryMake, Fault<'a>>
-    ensures { MatchResult result (λ m. AsksMake words.old m) (λ _. (m : Asked) → AsksMake words.old m → ⊥) }
+    ensures { MatchResult result (λ m. AsksMake words.old m) (λ fault. MemoryFails words.old fault) }
 {
     let word = words.next().ok_or(Fault::NoMake)?;
     match MakeWord::try_from(word)? {
@@ -40,7 +39,7 @@ fn read_make<'a>(words: &mut Scanner<'a>) -> Result<MemoryMake, Fault<'a>>
 
 // The rest of a line that begins with `row`.
 fn read_row<'a>(words: &mut Scanner<'a>) -> Result<Row, Fault<'a>>
-    ensures { MatchResult result (λ r. AsksRow words.old r) (λ _. (r : Given) → AsksRow words.old r → ⊥) }
+    ensures { MatchResult result (λ r. AsksRow words.old r) (λ fault. BehindFails first.Row words.old fault) }
 {
     let [off, max, file, saved] = numbers(
         words,
@@ -59,11 +58,7 @@ fn read_put<'a>(words: &mut Scanner<'a>) -> Result<Command<'a>, Fault<'a>>
 {
     let k = number(words, Operand::K)? as u16;
     let address = number(words, Operand::Address)?;
-    let hex = words.next().unwrap_or(b"");
-    if !is_hex(hex) {
-        return Err(Fault::NotBytes(hex));
-    }
-    end(words)?;
+    let hex = hex_or_none(words)?;
     Ok(Command::Put(k, address, hex))
 }
 

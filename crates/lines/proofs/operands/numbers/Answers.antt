@@ -1,6 +1,6 @@
-use Rattle.std.proofs.Common.{arith}
-use Rattle.std.proofs.lemmas.Result.{MatchResult-from_err}
-use Rattle.lines.proofs.Filling.{filled_more, none_filled}
+use Rattle.std.proofs.Common.{arith, rules}
+use Rattle.lines.specs.Faulty.{EndFails}
+use Rattle.lines.proofs.Filling.{filled_more, next_fails, rest_fails}
 use Rattle.lines.proofs.operands.numbers.Goals as goal
 
 pub loop-i-preserved : goal.loop-i-preserved
@@ -11,5 +11,10 @@ loop-i-preserved g c =
 
 pub returns-in_err-values : goal.returns-in_err-values
 returns-in_err-values g c =
-    MatchResult-from_err c.from_residual.result _ _ c.from_residual.ensures.0
-    (λ _. none_filled c.args.operands c.args.words.now c.loop-i.i _ (omega arith) c.loop-i.invariant.2 c.in_err-values.ensures)
+    let fails = next_fails EndFails c.in_err-values.field-0.0 c.args.operands c.args.words.now c.loop-i.values c.loop-i.i c.loop-i.invariant.1 c.loop-i.invariant.3 _ (omega arith) c.loop-i.invariant.2 c.in_err-values.ensures in
+    search rules
+
+pub returns-in_err-end : goal.returns-in_err-end
+returns-in_err-end g c =
+    let fails = rest_fails EndFails c.in_err-end.field-0.0 c.args.operands c.args.words.now c.loop-i.values c.loop-i.i c.loop-i.invariant.1 c.loop-i.invariant.3 _ (omega arith) c.loop-i.invariant.2 c.in_err-end.ensures in
+    search rules
