@@ -13,14 +13,11 @@ use super::scanner::Scanner;
 fn value_of(word: &[u8], operand: Operand) -> Result<u64, Fault<'_>>
     ensures { MatchResult result (λ n. Gives operand word.now n) (λ fault. Misfits operand word.now fault) }
 {
-    let n = numeral(word).map_err(|e| match e {
-        NoNumber::NotANumber => Fault::NotANumber(operand, word),
-        NoNumber::TooLarge => Fault::TooLarge(operand, word),
-    })?;
-    if n > operand.most() {
-        return Err(Fault::TooLarge(operand, word));
+    match numeral(word) {
+        Ok(n) if n <= operand.most() => Ok(n),
+        Err(NoNumber::NotANumber) => Err(Fault::NotANumber(operand, word)),
+        Ok(_) | Err(NoNumber::TooLarge) => Err(Fault::TooLarge(operand, word)),
     }
-    Ok(n)
 }
 
 // The next word as the value of an operand.
