@@ -1,5 +1,5 @@
 -- The entries of a register file.
-use Rattle.std.proofs.Common.{◌≡◌, ℕ, zero, suc, ◌+◌, ◌*◌, ◌<◌, ◌≤◌, Bool, true, false, cond, List, ◌++◌, length, get_or, take, drop, sym, refl, add-zero, ap, ◌∙◌, arith}
+use Rattle.std.proofs.Common.{◌≡◌, ℕ, zero, suc, ◌+◌, ◌*◌, ◌<◌, ◌≤◌, Bool, true, false, cond, List, ◌++◌, length, get_or, drop, sym, refl, add-zero, ap, ◌∙◌, arith}
 use Rattle.std.proofs.lemmas.Bool.Decides.{nat_tests}
 use Rattle.std.specs.List.{range_with_len, flat_map}
 use Rattle.std.proofs.lemmas.List.{append_assoc, append-nil, drop_all, drop-drop, drop_at, length-append, length-drop, take_at, take-append-drop}
@@ -9,9 +9,7 @@ use Rattle.isa.specs.Compartments.{entry_bytes, entry_value, keeps, filed}
 use Rattle.isa.proofs.Filing.{written, length_pieces, length_written}
 use Rattle.isa.specs.Windows.{placed, load, store}
 use Rattle.window.proofs.Seeing.{value_at-part}
-use Rattle.window.specs.Views.{seen, Whole}
 use Rattle.window.specs.Windows.{Parts}
-use Rattle.window.specs.declared.extent.Extent.{Extent}
 
 -- an access to entry k happens there
 placed_entry : (long k : ℕ) → long ≡ 2064 → k < 258 → placed long 8 (8 * k) ≡ 8 * k
@@ -22,15 +20,6 @@ pub load_entry : (file : List ℕ) → length file ≡ 2064 → (k : ℕ) → k 
 unfolding load
 load_entry file full k h =
     ap (λ (a : ℕ). value_at file a 8) (placed_entry (length file) k full h) ∙ ap (λ (a : ℕ). value_at file a 8) (sym (add-zero (8 * k))) ∙ value_at-part file (8 * k) 8 0 8 (omega arith)
-
--- entry k in the memory is that of the file
-pub entry_seen : (bs : List ℕ) (e : Extent) → Whole bs e → e.max ≡ 2063 → (k : ℕ) → k < 258 → value_at bs (e.off + 8 * k) 8 ≡ entry_value (seen bs e) k
-unfolding seen
-entry_seen bs e whole m k h =
-    let file = take (e.max + 1) (drop e.off bs) in
-    value_at-part bs e.off (e.max + 1) (8 * k) 8 (omega arith)
-    ∙ ap (λ (a : ℕ). value_at file a 8) (sym (add-zero (8 * k)))
-    ∙ value_at-part file (8 * k) 8 0 8 (omega arith)
 
 -- one piece more
 joined_more : (f : ℕ → List ℕ) (a n : ℕ) → flat_map f (range_with_len a (suc n)) ≡ flat_map f (range_with_len a n) ++ f (a + n)

@@ -1,5 +1,5 @@
 -- An accepted run: its answer and the state that it leaves are those of the definition.
-use Rattle.std.proofs.Common.{◌≡◌, ℕ, ◌≤◌, Bool, cond, eqb, ltb, List, set, Some, None, Ok, Err, Option, Result, sym, refl, ap, ◌∙◌}
+use Rattle.std.proofs.Common.{◌≡◌, ℕ, ◌≤◌, Bool, cond, eqb, List, set, Some, None, Ok, Option, Result, sym, ap, ◌∙◌}
 use lib.Seq.{sets}
 use Rattle.std.proofs.lemmas.Bool.{le-ltb, eq-eqb}
 use Rattle.plan.specs.declared.row.Row.{Row}
@@ -25,17 +25,3 @@ module _ (s : State) (r : Row) (k budget work : ℕ) where
       l ∙ ap (λ (x : ℕ). set s.latest k (Some (x, count))) c ∙ ap (λ (x : ℕ). set s.latest k (Some (e.code, x))) n in
       accepted-is a b w
       ∙ sym (λ i. (EndedWith (c i) (n i), record { held = h i; plan = s.plan; latest = records i }))
-
--- of a work area only counts whether it has 258 qwords
-same_ground : (s : State) (r : Row) (k budget v w : ℕ) (o : Option Refusal) → by_grant s (Run k budget v) (row_unless r o) ≡ by_grant s (Run k budget w) (row_unless r o)
-same_ground s r k budget v w (Some e) = refl
-same_ground s r k budget v w None = refl
-
-same-admitted : (s : State) (k budget v w : ℕ) → eqb v 258 ≡ eqb w 258 → (a : Result Row Refusal) → by_grant s (Run k budget v) (grant_at (Run k budget v) a) ≡ by_grant s (Run k budget w) (grant_at (Run k budget w) a)
-same-admitted s k budget v w e (Err x) = refl
-same-admitted s k budget v w e (Ok r) =
-    same_ground s r k budget v w _
-    ∙ ap (λ (b : Bool). by_grant s (Run k budget w) (row_unless r (cond (ltb 1000000 budget) (Some refusal.Budget) (cond b None (Some refusal.Work))))) e
-
-pub same-work : (s : State) (k budget v w : ℕ) → eqb v 258 ≡ eqb w 258 → outcome s (Run k budget v) ≡ outcome s (Run k budget w)
-same-work s k budget v w e = same-admitted s k budget v w e (admission s k)

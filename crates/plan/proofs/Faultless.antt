@@ -1,7 +1,7 @@
 -- Rows at which no ground applies keep to the plan's invariant, and the other way round.
 use Rattle.std.proofs.Common.{◌≡◌, ℕ, ◌^◌, ◌<◌, ◌≤◌, List, length, take, sym, refl, ap, ◌∙◌, subst, inl, inr, arith}
 use Rattle.std.proofs.lemmas.Bool.{cases_lt}
-use Rattle.std.proofs.lemmas.List.{get_or-take, take_all}
+use Rattle.std.proofs.lemmas.List.{get_or-take}
 use Rattle.plan.specs.Areas.{AllBounded, Bounded, Crosses, NoneCrossed, NoneShared, Shares, row_at}
 use Rattle.plan.specs.Grounds.{Applies, OtherRow, Overlaps, Refuses, ground_number}
 use Rattle.plan.specs.declared.ground.LayRefusal.{LayRefusal}
@@ -55,19 +55,6 @@ module _ (rows : List Row) (laid i : ℕ) (l : i < length rows) (few : length ro
         ];
         other_row = subst (λ (g : Ground). OtherRow g rows e.row e.other) (sym f) (subst (λ (k : ℕ). Overlaps rows k e.other) (sym same) (subst (λ (k : ℕ). Overlaps rows i k) (sym other) o));
       }
-
--- a ground applies only at a row of the list, unless the list is empty
-pub applies_below : (rows : List Row) (laid i : ℕ) → 0 < length rows → (g : Ground) → Applies g rows laid i → i < length rows
-applies_below rows laid i l Rows (e, _) = omega arith
-applies_below rows laid i l Size (e, _) = omega arith
-applies_below rows laid i l Short (e, _) = e
-applies_below rows laid i l Saved (e, _) = e
-applies_below rows laid i l Outside (e, _) = e
-applies_below rows laid i l Overlap (e, _) = e
-
--- an array that agrees with the rows as far as they go begins with them
-pub all_held : (rows held : List Row) (i : ℕ) → i ≡ length rows → take i held ≡ take i rows → take (length rows) held ≡ rows
-all_held rows held i e t = ap (λ n. take n held) (sym e) ∙ t ∙ ap (λ n. take n rows) e ∙ take_all (length rows) rows (omega arith)
 
 -- an array that begins with the rows has them at their places
 same_at : (held rows : List Row) → take (length rows) held ≡ rows → (k : ℕ) → k < length rows → row_at rows k ≡ row_at held k
