@@ -43,14 +43,14 @@ fails_behind R f (suc i) (o ∷ os) (w ∷ ws) l m fit h =
     inr (w, ws, (fit 0 (omega arith)).0, refl, (fit 0 (omega arith)).1, fails_behind R f i os ws (omega arith) (omega arith) (λ k less. fit (suc k) (omega arith)) h)
 
 module _ (R : List (List ℕ) → Fault → Type 0) (f : Fault) (os : List Operand) (ws : List (List ℕ)) (ns : List ℕ) (i : ℕ) (short : i ≤ length ws) (so_far : FilledTo i os ws ns) where
+  behind : i ≤ length os → (ps : List Operand) → drop i os ≡ ps → OperandsFail ps R (drop i ws) f → OperandsFail os R ws f
+  behind l ps here fails =
+      fails_behind R f i os ws l short (λ k h. (get_or ns k 0, so_far k h)) (subst (λ (qs : List Operand). OperandsFail qs R (drop i ws) f) (sym here) fails)
+
   -- the next operand gets no value
   pub next_fails : (left : List (List ℕ)) → i < length os → drop i ws ≡ left → NextFails (get_or os i N) left f → OperandsFail os R ws f
-  next_fails left l here fails =
-      let head : OperandsFail (get_or os i N ∷ drop (suc i) os) R (drop i ws) f = inl (rw (sym here) at fails) in
-      fails_behind R f i os ws (omega arith) short (λ k h. (get_or ns k 0, so_far k h)) (subst (λ (ps : List Operand). OperandsFail ps R (drop i ws) f) (sym (drop-cons os i N l)) head)
+  next_fails left l here fails = behind (omega arith) (get_or os i N ∷ drop (suc i) os) (drop-cons os i N l) (inl (rw (sym here) at fails))
 
-  -- what stands behind the last one fails
-  pub rest_fails : (left : List (List ℕ)) → i ≡ length os → drop i ws ≡ left → R left f → OperandsFail os R ws f
-  rest_fails left l here fails =
-      let head : OperandsFail [] R (drop i ws) f = rw (sym here) at fails in
-      fails_behind R f i os ws (omega arith) short (λ k h. (get_or ns k 0, so_far k h)) (subst (λ (ps : List Operand). OperandsFail ps R (drop i ws) f) (sym (drop_all i os (omega arith))) head)
+  -- all operands have their words, and what stands behind these fails
+  pub filled_fails : (left : List (List ℕ)) → i ≡ length os → drop i ws ≡ left → R left f → OperandsFail os R ws f
+  filled_fails left l here fails = behind (omega arith) [] (drop_all i os (omega arith)) (rw (sym here) at fails)

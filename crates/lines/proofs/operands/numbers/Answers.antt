@@ -1,6 +1,6 @@
 use Rattle.std.proofs.Common.{arith, rules}
 use Rattle.lines.specs.Faulty.{EndFails}
-use Rattle.lines.proofs.Filling.{filled_more, next_fails, rest_fails}
+use Rattle.lines.proofs.Filling.{filled_fails, filled_more, next_fails}
 use Rattle.lines.proofs.operands.numbers.Goals as goal
 
 pub loop-i-preserved : goal.loop-i-preserved
@@ -16,5 +16,5 @@ returns-in_err-values g c =
 
 pub returns-in_err-end : goal.returns-in_err-end
 returns-in_err-end g c =
-    let fails = rest_fails EndFails c.in_err-end.field-0.0 c.args.operands c.args.words.now c.loop-i.values c.loop-i.i c.loop-i.invariant.1 c.loop-i.invariant.3 _ (omega arith) c.loop-i.invariant.2 c.in_err-end.ensures in
+    let fails = filled_fails EndFails c.in_err-end.field-0.0 c.args.operands c.args.words.now c.loop-i.values c.loop-i.i c.loop-i.invariant.1 c.loop-i.invariant.3 _ (omega arith) c.loop-i.invariant.2 c.in_err-end.ensures in
     search rules
