@@ -1,5 +1,5 @@
 // Laying a plan: every row is checked before the plan changes.
-ghost use Rattle.std.specs.Prelude.{ℕ, ◌^◌, ◌<◌, ◌≤◌, length, IfSome, MatchOption, MatchResult};
+ghost use Rattle.std.specs.Prelude.{◌≡◌, ℕ, ◌^◌, ◌<◌, ◌≤◌, length, IfSome, MatchOption, MatchResult};
 ghost use Rattle.plan.specs.Areas.{EndsWithin, Shares, row_at};
 ghost use Rattle.plan.specs.Grounds.{Applies, Refuses};
 ghost use Rattle.plan.specs.Lays.{Lays};
@@ -19,28 +19,27 @@ fn sharer(earlier: &[Row], row: Placed, laid: u64) -> Option<usize>
 }
 
 // The first ground against row i, where none applies at an earlier row.
-fn check_row(rows: &[Row], i: usize, laid: u64) -> Result<(), LayRefusal>
+fn check_row(rows: &[Row], i: usize, row: Row, laid: u64) -> Result<(), LayRefusal>
     requires place { i < length rows.now }
+    requires same { row ≡ row_at rows.now i }
     requires few { length rows.now ≤ 16 }
     requires small { laid ≤ 2 ^ 32 }
     requires earlier { (g : Ground) (k : ℕ) → k < i → Applies g rows.now laid k → ⊥ }
     ensures { MatchResult result (λ _. (g : Ground) → Applies g rows.now laid i → ⊥) (λ e. Refuses rows.now laid e) }
 {
-    let r = rows[i];
-    let row = i as u16;
-    if r.max < 7 {
-        return Err(LayRefusal::new(Ground::Short, row, row));
+    let number = i as u16;
+    if row.max < 7 {
+        return Err(LayRefusal::new(Ground::Short, number, number));
     }
-    if r.saved < 1 || r.saved > 256 {
-        return Err(LayRefusal::new(Ground::Saved, row, row));
+    if row.saved < 1 || row.saved > 256 {
+        return Err(LayRefusal::new(Ground::Saved, number, number));
     }
-    let placed = Placed::within(r, laid).ok_or(LayRefusal::new(Ground::Outside, row, row))?;
+    let placed = Placed::within(row, laid).ok_or(LayRefusal::new(Ground::Outside, number, number))?;
     if placed.crosses_itself() {
-        return Err(LayRefusal::new(Ground::Overlap, row, row));
+        return Err(LayRefusal::new(Ground::Overlap, number, number));
     }
-    // A match, since `map_or` with an `Ok` outside and an `Err` inside would hide which of the two is the refusal.
     match sharer(&rows[..i], placed, laid) {
-        Some(j) => Err(LayRefusal::new(Ground::Overlap, row, j as u16)),
+        Some(j) => Err(LayRefusal::new(Ground::Overlap, number, j as u16)),
         None => Ok(()),
     }
 }
@@ -55,9 +54,8 @@ pub fn lay(rows: &[Row], laid_size: u64, plan: &mut Plan) -> Result<(), LayRefus
     if laid_size > 0x1_0000_0000 {
         return Err(LayRefusal::new(Ground::Size, 0, 0));
     }
-    // By index, since a refusal names its row and looks at the rows before it.
-    for i in 0..rows.len() {
-        check_row(rows, i, laid_size)?;
+    for (i, row) in rows.iter().enumerate() {
+        check_row(rows, i, *row, laid_size)?;
     }
     let mut held = [rows[0]; 16];
     held[..rows.len()].copy_from_slice(rows);
