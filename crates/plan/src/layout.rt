@@ -2,7 +2,7 @@
 ghost use Rattle.std.specs.Prelude.{◌≡◌, ℕ, ◌^◌, ◌<◌, ◌≤◌, length, IfSome, MatchOption, MatchResult};
 ghost use Rattle.plan.specs.Areas.{EndsWithin, Shares, row_at};
 ghost use Rattle.plan.specs.Grounds.{Applies, Refuses};
-ghost use Rattle.plan.specs.Lays.{Lays};
+ghost use Rattle.plan.specs.Lays.{IsDue, Lays, laid_answer};
 ghost use Rattle.plan.specs.declared.ground.Ground.{Ground};
 
 use super::ground::{Ground, LayRefusal};
@@ -46,7 +46,8 @@ fn check_row(rows: &[Row], i: usize, row: Row, laid: u64) -> Result<(), LayRefus
 
 // Makes the plan of these rows, or refuses and leaves it as it was.
 pub fn lay(rows: &[Row], laid_size: u64, plan: &mut Plan) -> Result<(), LayRefusal>
-    ensures { Lays rows.now laid_size plan.old result plan.new }
+    ensures lays { Lays rows.now laid_size plan.old result plan.new }
+    ensures answer { IsDue rows.now laid_size (laid_answer result) }
 {
     if rows.is_empty() || rows.len() > 16 {
         return Err(LayRefusal::new(Ground::Rows, 0, 0));

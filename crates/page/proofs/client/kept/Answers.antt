@@ -11,7 +11,7 @@ pub returns : goal.returns
 returns c =
     let bytes = λ (p : Page). p.cells in
     let made = c.make-machine.ensures.opening in
-    let plan = laid_ok _ _ _ _ c.lay.result _ c.lay.ensures (sym c.ok.ensures.value ∙ c.in_ok-ok.was) in
+    let plan = laid_ok _ _ _ _ c.lay.result _ c.lay.ensures.lays (sym c.ok.ensures.value ∙ c.in_ok-ok.was) in
     let size : c.make-machine.result.plan.size ≡ 4096 = omega (arith, ap (λ (s : State). s.plan.size) made, plan.same_size) in
     let rows = ap (λ (s : State). rows_of s.plan) made ∙ plan.same_rows in
     c.ok-2.ensures.value
