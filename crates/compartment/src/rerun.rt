@@ -30,6 +30,7 @@ pub fn run<M: Memory>(
     ensures count { result.1 ≡ (compartment_ran (seen (M.Memory.bytes memory.old) window) (seen (M.Memory.bytes memory.old) file) saved budget).count }
     ensures bytes { M.Memory.bytes memory.new ≡ replaced (replaced (M.Memory.bytes memory.old) window (compartment_ran (seen (M.Memory.bytes memory.old) window) (seen (M.Memory.bytes memory.old) file) saved budget).window) file (compartment_ran (seen (M.Memory.bytes memory.old) window) (seen (M.Memory.bytes memory.old) file) saved budget).file }
     ensures wiped { work.new ≡ replicate 258 0 }
+    ensures within { result.1 ≤ budget }
 {
     take_in(&View::new(memory, file), saved, work);
     let mut bank = Bank::open(work);

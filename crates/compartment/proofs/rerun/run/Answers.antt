@@ -33,4 +33,5 @@ returns g c =
       count = c.run-ended.ensures.count ∙ sym (ap (λ (x : Ended). x.count) is);
       bytes = search rules;
       wiped = search rules;
+      within = search rules;
     }
