@@ -130,6 +130,7 @@ impl<M: Memory> Machine<M> {
         ensures outcome { Outcome (Run k budget (size work.old)) (state M.Memory.bytes self.old) (ended_answer result) (state M.Memory.bytes self.new) }
         ensures wiped { is_ok result ≡ true → work.new ≡ replicate 258 0 }
         ensures kept { is_err result ≡ true → work.new ≡ work.old }
+        ensures within { IfOk result (λ e. e.count ≤ budget) }
     {
         let row = self.admit(k)?;
         if budget > 1_000_000 {

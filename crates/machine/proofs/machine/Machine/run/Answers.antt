@@ -19,4 +19,5 @@ returns g c =
           c.run-end.ensures.code c.run-end.ensures.count c.run-end.ensures.bytes code;
       wiped = search rules;
       kept = search rules;
+      within = search rules;
     }
