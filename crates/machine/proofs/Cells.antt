@@ -5,7 +5,7 @@ use Rattle.std.proofs.lemmas.List.{get_or-set_same}
 use Rattle.std.proofs.lemmas.List.Edits.{sets}
 use Rattle.std.proofs.lemmas.Option.{slice_get_within}
 use Rattle.std.proofs.Math.Seq.{length-sets}
-use Rattle.memory.specs.Bytes.{value_at, bytes_of as number_bytes}
+use Rattle.memory.specs.Bytes.{value_at, bytes_of}
 use Rattle.memory.specs.Elements.{length-bytes_of}
 use Rattle.window.proofs.Seeing.{value_at-part}
 use Rattle.isa.specs.Compartments.{Ended, compartment_ran}
@@ -54,7 +54,7 @@ with_run x e = record { long = x.long; saved = x.saved; window = e.window; file 
 abbrev pub done : Cell → Call → Answer × Cell
 done x (Put k a bs) = (Done, record x { window = sets x.window a bs })
 done x (Fetch k a n) = (Filled (part x.window a n), x)
-done x (Set k i w) = (Done, record x { file = sets x.file (8 * i) (number_bytes 8 w) })
+done x (Set k i w) = (Done, record x { file = sets x.file (8 * i) (bytes_of 8 w) })
 done x (Get k i) = (Word (value_at x.file (8 * i) 8), x)
 done x (Run k budget work) =
     let e = compartment_ran x.window x.file x.saved budget in (EndedWith e.code e.count, with_run x e)
@@ -117,8 +117,8 @@ accepted_own s r (Set k i w) g e h =
     let is = qword_sets s.held (r.file + 8 * i) w (omega (arith, file_in s r k g e)) in (
       refl,
       same_cell _ _ _ _ _ _ _ _
-          (ap (λ (l : List ℕ). part l r.off (r.max + 1)) is ∙ window_kept s r k g e (number_bytes 8 w) s.held (r.file + 8 * i) (omega arith) (omega (arith, n)))
-          (ap (λ (l : List ℕ). part l r.file 2064) is ∙ part_inside (number_bytes 8 w) s.held r.file 2064 (8 * i) (file_in s r k g e) (omega (arith, n)))
+          (ap (λ (l : List ℕ). part l r.off (r.max + 1)) is ∙ window_kept s r k g e (bytes_of 8 w) s.held (r.file + 8 * i) (omega arith) (omega (arith, n)))
+          (ap (λ (l : List ℕ). part l r.file 2064) is ∙ part_inside (bytes_of 8 w) s.held r.file 2064 (8 * i) (file_in s r k g e) (omega (arith, n)))
           refl,
     )
 accepted_own s r (Get k i) g e h = (ap Word (value_at-part s.held r.file 2064 (8 * i) 8 (omega arith)), refl)

@@ -4,7 +4,7 @@ use Rattle.std.proofs.lemmas.List.{get_or-set_other}
 use Rattle.std.proofs.lemmas.List.Edits.{sets, sets-eq}
 use Rattle.std.proofs.lemmas.Bool.{ltb-false, cond_both}
 use Rattle.std.proofs.Math.Seq.{length-sets}
-use Rattle.memory.specs.Bytes.{put_at, bytes_of as number_bytes}
+use Rattle.memory.specs.Bytes.{put_at, bytes_of}
 use Rattle.memory.specs.Elements.{length-bytes_of}
 use Rattle.memory.proofs.Puts.{put_at_parts}
 use Rattle.runs.proofs.Files.{files_keep_lem}
@@ -40,12 +40,12 @@ room long (Run k budget work) h = tt
 room long (Last k) h = tt
 
 -- a qword is eight writes, one after the other
-pub qword_sets : (bs : List ℕ) (a v : ℕ) → a + 8 ≤ length bs → put_at bs a 8 v ≡ sets bs a (number_bytes 8 v)
+pub qword_sets : (bs : List ℕ) (a v : ℕ) → a + 8 ≤ length bs → put_at bs a 8 v ≡ sets bs a (bytes_of 8 v)
 qword_sets bs a v h =
     let n = length-bytes_of 8 v in
     put_at_parts bs a 8 v h
-    ∙ ap (λ (m : ℕ). take a bs ++ (number_bytes 8 v ++ drop (a + m) bs)) (sym n)
-    ∙ sym (sets-eq (number_bytes 8 v) bs a (omega (arith, n)) ∙ append_assoc (take a bs) (number_bytes 8 v) (drop (a + length (number_bytes 8 v)) bs))
+    ∙ ap (λ (m : ℕ). take a bs ++ (bytes_of 8 v ++ drop (a + m) bs)) (sym n)
+    ∙ sym (sets-eq (bytes_of 8 v) bs a (omega (arith, n)) ∙ append_assoc (take a bs) (bytes_of 8 v) (drop (a + length (bytes_of 8 v)) bs))
 
 -- and there are as many records as before
 pub record Keeps (k : ℕ) (s t : State) : Type 0 where
@@ -80,8 +80,8 @@ accepted_keeps s r (Set k i w) e g h =
       only =
           record {
             same_plan = refl;
-            same_length = ap (λ (l : List ℕ). length l) is ∙ length-sets s.held (r.file + 8 * i) (number_bytes 8 w);
-            other_bytes = λ x out. ap (λ (l : List ℕ). get_or l x 0) is ∙ sets_out (number_bytes 8 w) s.held (r.file + 8 * i) x 0 (λ m. out (r, (e, inr (omega arith, omega (arith, n)))));
+            same_length = ap (λ (l : List ℕ). length l) is ∙ length-sets s.held (r.file + 8 * i) (bytes_of 8 w);
+            other_bytes = λ x out. ap (λ (l : List ℕ). get_or l x 0) is ∙ sets_out (bytes_of 8 w) s.held (r.file + 8 * i) x 0 (λ m. out (r, (e, inr (omega arith, omega (arith, n)))));
             other_records = λ j ne. refl;
           };
       as_many = refl;

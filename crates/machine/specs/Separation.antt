@@ -23,20 +23,20 @@ abbrev pub row_bytes : State → Option Row → List ℕ
 row_bytes s None = []
 row_bytes s (Some r) = part s.held r.off (r.max + 1) ++ part s.held r.file 2064
 
-abbrev pub length_of : State → ℕ → ℕ
-length_of s k = row_length (row_of s.plan k)
+abbrev pub compartment_length : State → ℕ → ℕ
+compartment_length s k = row_length (row_of s.plan k)
 
-abbrev pub saved_of : State → ℕ → ℕ
-saved_of s k = row_saved (row_of s.plan k)
+abbrev pub compartment_saved : State → ℕ → ℕ
+compartment_saved s k = row_saved (row_of s.plan k)
 
-abbrev pub bytes_of : State → ℕ → List ℕ
-bytes_of s k = row_bytes s (row_of s.plan k)
+abbrev pub compartment_bytes : State → ℕ → List ℕ
+compartment_bytes s k = row_bytes s (row_of s.plan k)
 
 -- Compartment k is the same in both.
 pub record Alike (k : ℕ) (s t : State) : Type 0 where
-  pub same_length : length_of s k ≡ length_of t k
-  pub same_saved : saved_of s k ≡ saved_of t k
-  pub same_bytes : bytes_of s k ≡ bytes_of t k
+  pub same_length : compartment_length s k ≡ compartment_length t k
+  pub same_saved : compartment_saved s k ≡ compartment_saved t k
+  pub same_bytes : compartment_bytes s k ≡ compartment_bytes t k
 
 -- The memory has at least the plan's laid size.
 abbrev pub Roomy : State → Type 0
@@ -68,7 +68,7 @@ abbrev pub Separated : State → State → Type 0
 Separated s t =
     (k : ℕ) (es fs : List Event) (s' t' : State)
     → Session s es s' → Session t fs t' → Roomy s → Roomy t → Alike k s t → calls (naming k es) ≡ calls (naming k fs)
-    → (answers (naming k es) ≡ answers (naming k fs)) × (bytes_of s' k ≡ bytes_of t' k)
+    → (answers (naming k es) ≡ answers (naming k fs)) × (compartment_bytes s' k ≡ compartment_bytes t' k)
 
 -- The byte at address a is one of compartment k.
 abbrev pub HasByte : Plan → ℕ → ℕ → Type 0
