@@ -1,4 +1,4 @@
-// Several bytes of a memory at once, one after the other: one function writes and one reads, so they are no twins.
+// Several bytes of a memory at once, one after the other.
 ghost use Rattle.std.specs.Prelude.{◌≡◌, ◌+◌, ◌^◌, ◌≤◌, length};
 ghost use Rattle.std.proofs.lemmas.List.Edits.{sets};
 ghost use Rattle.machine.specs.Outcomes.{part};
@@ -9,7 +9,6 @@ pub(crate) fn write_all<M: Memory>(memory: &mut M, address: u64, bytes: &[u8])
     requires { address + length bytes.now ≤ 2 ^ 64 }
     ensures { M.Memory.bytes memory.new ≡ sets (M.Memory.bytes memory.old) address bytes.now }
 {
-    // A loop, since a proof knows nothing of what `for_each` changed.
     for (i, byte) in bytes.iter().enumerate() {
         memory.write(address + i as u64, *byte);
     }

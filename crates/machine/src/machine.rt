@@ -16,7 +16,6 @@ use memory::{Memory, Width, load, store};
 use plan::{Plan, Row};
 use window::Extent;
 
-// No model: a state forgets the memory itself, which `release` gives back.
 #[derive(Drop)]
 pub struct Machine<M> {
     memory: M,

@@ -18,7 +18,6 @@ impl Placed {
     {
         let inside = u128::from(row.off) + u128::from(row.max) + 1 <= u128::from(laid)
             && u128::from(row.file) + 2064 <= u128::from(laid);
-        // An `if`, since a closure for `then` would need this fact as a clause of its own.
         if inside { Some(Placed { row }) } else { None }
     }
 
