@@ -10,8 +10,8 @@ use memory::Width::{Byte, Long, Qword, Short};
 // What the table says of an opcode: an operation, the form of its operands, and a length.
 pub type Entry = (Operation, Form, u8);
 
-// As long as the instruction set has it, and never changed.
-static TABLE: [Entry; 94] = [
+// A row for each opcode below 94.
+const TABLE: [Entry; 94] = [
     (Operation::Halt, Form::Plain, 1),
     (Operation::Nop, Form::Plain, 1),
     (Operation::BecomeUser, Form::Five, 6),

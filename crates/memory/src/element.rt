@@ -67,13 +67,13 @@ impl Element for u64 {
 
     ghost even = { Prim.search rules };
 
-    // By a shift, since the compiler puts an array that is indexed into memory.
     fn byte(self, r: u64) -> u8 {
-        ((self >> (56 - 8 * r)) & 0xff) as u8
+        self.to_be_bytes()[r as usize]
     }
 
-    // By a shift too: the bits in which the old byte and the new one differ are turned over.
     fn with_byte(self, r: u64, byte: u8) -> u64 {
-        self ^ (u64::from(self.byte(r) ^ byte) << (56 - 8 * r))
+        let mut bytes = self.to_be_bytes();
+        bytes[r as usize] = byte;
+        u64::from_be_bytes(bytes)
     }
 }

@@ -1,6 +1,9 @@
 // The meaning that every make of a memory keeps: a list of bytes.
 ghost use Rattle.std.specs.Prelude.{◌≡◌, ℕ, ◌+◌, ◌^◌, ◌<◌, ◌≤◌, List, length, slice_index, slice_set};
 ghost use Rattle.memory.specs.Bytes.{value_at, put_at};
+ghost use Rattle.memory.specs.Widths.{width_bytes};
+
+use super::width::Width;
 
 // No memory has more bytes than this.
 pub(crate) const LIMIT: u64 = 0x1_0000_0000;
@@ -36,13 +39,14 @@ pub trait Memory {
         self.write(address, byte);
     }
 
-    // Several bytes, in their places from the address on, the last one first.
-    fn write_bytes(&mut self, address: u64, digits: &[u8])
-        requires { address + length digits.now ≤ length (bytes self.old) }
-        ensures value { bytes self.new ≡ put_at (bytes self.old) address (length digits.now) (value_at digits.now 0 (length digits.now)) }
+    // As many bytes as the width has, the last ones of an array, in their places from the address on, the last one first.
+    fn write_bytes(&mut self, address: u64, width: Width, digits: [u8; 8])
+        requires { address + width_bytes width ≤ length (bytes self.old) }
+        ensures value { bytes self.new ≡ put_at (bytes self.old) address (width_bytes width) (value_at digits 0 8) }
     {
-        for (i, digit) in digits.iter().enumerate().rev() {
-            self.write_inside(address + i as u64, *digit);
+        let first = 8 - width.bytes();
+        for i in (0..width.bytes()).rev() {
+            self.write_inside(address + i, digits[(first + i) as usize]);
         }
     }
 
