@@ -1,12 +1,12 @@
 -- The entries of a register file.
-use Rattle.std.proofs.Common.{◌≡◌, ℕ, zero, suc, ◌+◌, ◌*◌, ◌<◌, ◌≤◌, Bool, true, false, cond, List, ◌++◌, length, get_or, drop, sym, refl, add-zero, ap, ◌∙◌, arith}
+use Rattle.std.proofs.Common.{◌≡◌, ℕ, zero, suc, ◌+◌, ◌-◌, ◌*◌, ◌<◌, ◌≤◌, min, ⊎_elim, ◌⊎◌, Bool, true, false, cond, List, ◌++◌, length, get_or, drop, sym, refl, add-zero, ap, ◌∙◌, arith}
 use Rattle.std.proofs.lemmas.Bool.Decides.{nat_tests}
 use Rattle.std.specs.List.{range_with_len, flat_map}
 use Rattle.std.proofs.lemmas.List.{append_assoc, append-nil, drop_all, drop-drop, drop_at, length-append, length-drop, take_at, take-append-drop}
 use Rattle.memory.specs.Bytes.{bytes_of, value_at, put_at}
 use Rattle.memory.proofs.Puts.{put_at_parts}
 use Rattle.isa.specs.Compartments.{entry_bytes, entry_value, keeps, filed}
-use Rattle.isa.proofs.Filing.{written, length_pieces, length_written}
+use Rattle.isa.proofs.Filing.{written, length_pieces, length_written, not_kept}
 use Rattle.isa.specs.Windows.{placed, load, store}
 use Rattle.window.proofs.Seeing.{value_at-part}
 use Rattle.window.specs.Windows.{Parts}
@@ -30,6 +30,9 @@ joined_more f a (suc n) =
     ap (λ (l : List ℕ). f a ++ l) (joined_more f (a + 1) n)
     ∙ sym (append_assoc (f a) (flat_map f (range_with_len (a + 1) n)) (f (a + 1 + n)))
     ∙ ap (λ (k : ℕ). (f a ++ flat_map f (range_with_len (a + 1) n)) ++ f k) z
+
+pub lasts : (saved k : ℕ) → (k < min saved 256) ⊎ (256 ≤ k) → keeps saved k ≡ true
+lasts saved k h = ⊎_elim (λ (l : k < min saved 256). grind (arith, nat_tests)) (λ (l : 256 ≤ k). grind (arith, nat_tests)) h
 
 -- the file once its first k entries are written back
 unfoldable pub filed_to : List ℕ → ℕ → List ℕ → ℕ → List ℕ
@@ -77,6 +80,15 @@ module _ (file : List ℕ) (saved : ℕ) (registers : List ℕ) (full : length f
       ∙ ap (λ (l : List ℕ). j ++ (entry_bytes file k ++ l)) (sym (drop-drop 8 (8 * k) file))
       ∙ ap (λ (l : List ℕ). j ++ l) (take-append-drop 8 (drop (8 * k) file)))
 
+  -- from the last saved register on, up to P
+  filed_to_unsaved : (k n : ℕ) → (k < 256 → saved ≤ k) → k + n ≡ 256 → filed_to file saved registers k ≡ filed_to file saved registers 256
+  filed_to_unsaved k zero a e =
+      let z : k ≡ 256 = omega arith in
+      ap (filed_to file saved registers) z
+  filed_to_unsaved k (suc n) a e =
+      let u : k < 256 = omega arith in
+      filed_to_left k (omega arith) (not_kept saved k (a u) u) ∙ filed_to_unsaved (k + 1) n (λ l. omega (arith, a u)) (omega arith)
+
   pub filed_to_kept : (k : ℕ) → k < 258 → keeps saved k ≡ true → put_at (filed_to file saved registers k) (8 * k) 8 (get_or registers k 0) ≡ filed_to file saved registers (k + 1)
   unfolding filed_to
   filed_to_kept k h e =
@@ -98,10 +110,10 @@ module _ (file : List ℕ) (saved : ℕ) (registers : List ℕ) (full : length f
   all_back h now k z e =
       e ∙ ap (λ (n : ℕ). record h { window = filed_to file saved registers n }) z ∙ ap (λ (l : List ℕ). record h { window = l }) filed_to_all
 
-  -- the next entry, left as it is or stored
+  -- the entries up to P that do not last stay; the next one is stored
   module _ (h : Parts) (k : ℕ) (below : k < 258) (now : Parts) (sofar : now ≡ record h { window = filed_to file saved registers k }) where
-    pub left_back : keeps saved k ≡ false → now ≡ record h { window = filed_to file saved registers (k + 1) }
-    left_back e = sofar ∙ ap (λ (l : List ℕ). record h { window = l }) (filed_to_left k below e)
+    pub unsaved_back : k ≡ min saved 256 → now ≡ record h { window = filed_to file saved registers 256 }
+    unsaved_back e = sofar ∙ ap (λ (l : List ℕ). record h { window = l }) (filed_to_unsaved k (256 - k) (λ l. omega arith) (omega arith))
 
     pub kept_back : (next : Parts) (v : ℕ) → keeps saved k ≡ true → v ≡ get_or registers k 0 → next ≡ record now { window = store now.window 8 (8 * k) v } → next ≡ record h { window = filed_to file saved registers (k + 1) }
     unfolding store

@@ -1,19 +1,12 @@
 // A register file and the registers: what a run takes in, and what it puts back.
 ghost use Rattle.std.specs.Prelude.{◌≡◌, length};
 ghost use Rattle.bank.specs.Banks.{words_of};
-ghost use Rattle.isa.specs.Compartments.{keeps, started, filed};
+ghost use Rattle.isa.specs.Compartments.{started, filed};
 ghost use Rattle.window.specs.Windows.{parts_of};
 
 use bank::Bank;
 use memory::Memory;
 use window::{View, Window};
-
-// Whether the entry lasts from run to run.
-fn lasts(saved: u16, index: usize) -> bool
-    ensures { result ≡ keeps saved index }
-{
-    index < usize::from(saved) || 256 <= index
-}
 
 // Fills the registers with the entries that last; every other one is zero.
 pub(crate) fn take_in<M: Memory>(file: &View<'_, M>, saved: u16, registers: &mut [u64])
@@ -21,13 +14,13 @@ pub(crate) fn take_in<M: Memory>(file: &View<'_, M>, saved: u16, registers: &mut
     requires full { length registers.old ≡ 258 }
     ensures { registers.new ≡ started file.now saved }
 {
-    for (index, register) in registers.iter_mut().enumerate() {
-        *register = if lasts(saved, index) {
-            file.qword(8 * index as u64)
-        } else {
-            0
-        };
+    let kept = usize::from(saved).min(256);
+    for index in 0..kept {
+        registers[index] = file.qword(8 * index as u64);
     }
+    registers[kept..256].fill(0);
+    registers[256] = file.qword(2048);
+    registers[257] = file.qword(2056);
 }
 
 // Writes the entries that last back from the bank; every other byte stays.
@@ -36,9 +29,11 @@ pub(crate) fn put_back<M: Memory>(file: &mut Window<'_, M>, saved: u16, bank: &B
     ensures parts { parts_of file.new ≡ record (parts_of file.old) { window = filed (parts_of file.old).window saved (words_of bank.now) } }
     ensures lent { file.new.memory.ghost_name ≡ file.old.memory.ghost_name }
 {
-    for (index, register) in bank.words().iter().enumerate() {
-        if lasts(saved, index) {
-            file.put_qword(8 * index as u64, *register);
-        }
+    let words = bank.words();
+    let kept = usize::from(saved).min(256);
+    for index in 0..kept {
+        file.put_qword(8 * index as u64, words[index]);
     }
+    file.put_qword(2048, words[256]);
+    file.put_qword(2056, words[257]);
 }

@@ -57,7 +57,7 @@ below_cond : (b : Bool) (x : ℕ) → x < 2 ^ 64 → cond b x 0 < 2 ^ 64
 below_cond true x h = h
 below_cond false x h = omega arith
 
-not_kept : (saved k : ℕ) → saved ≤ k → k < 256 → keeps saved k ≡ false
+pub not_kept : (saved k : ℕ) → saved ≤ k → k < 256 → keeps saved k ≡ false
 not_kept saved k h l = grind (arith, nat_tests)
 
 module _ (file : List ℕ) (saved : ℕ) (registers : List ℕ) (full : length file ≡ 2064) where

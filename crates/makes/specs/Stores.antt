@@ -20,6 +20,22 @@ machine_state (any.Flat m) = state flat_bytes m
 machine_state (any.Words m) = state words_bytes m
 machine_state (any.Spliced m) = state (spliced_bytes flat_bytes words_bytes) m
 
+-- Which kind of memory it is, and which was asked for.
+pub data Kind : Type 0 where
+  OfBytes : Kind
+  OfWords : Kind
+  OfTwo : Kind
+
+abbrev pub store_kind : Store → Kind
+store_kind (Flat m) = OfBytes
+store_kind (Words m) = OfWords
+store_kind (Spliced m) = OfTwo
+
+abbrev pub asked_kind : MemoryMake → Kind
+asked_kind (make.Flat n) = OfBytes
+asked_kind (make.Words n) = OfWords
+asked_kind (make.Spliced n m) = OfTwo
+
 -- How many bytes a memory has that is asked for.
 abbrev pub made_size : MemoryMake → ℕ
 made_size (make.Flat n) = min (2 ^ 32) n

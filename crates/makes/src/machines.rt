@@ -1,9 +1,10 @@
 // A machine over the memory of a script, of whichever make it is.
-ghost use Rattle.std.specs.Prelude.{◌≡◌, ℕ, true, List, length, is_err};
+ghost use Rattle.std.specs.Prelude.{◌≡◌, ℕ, true, List, length, replicate, is_err, is_ok};
 ghost use Rattle.machine.specs.Answers.{done_answer, ended_answer, filled_answer, latest_answer, word_answer};
 ghost use Rattle.machine.specs.Calls.{Put, Fetch, Set, Get, Run, Last};
 ghost use Rattle.machine.specs.Machines.{opening};
 ghost use Rattle.machine.specs.Outcomes.{Outcome};
+ghost use Rattle.machine.specs.Separation.{KeptApart};
 ghost use Rattle.makes.specs.Stores.{store_bytes, machine_state};
 
 use super::store::{Store, for_make, map_make};
@@ -21,7 +22,8 @@ pub enum AnyMachine {
 
 impl AnyMachine {
     pub fn make(store: Store, plan: Plan) -> AnyMachine
-        ensures { machine_state result ≡ opening (store_bytes store) plan }
+        ensures opening { machine_state result ≡ opening (store_bytes store) plan }
+        ensures apart { KeptApart (machine_state result) }
     {
         map_make!(Store, store, memory => AnyMachine, Machine::make(memory, plan))
     }
@@ -63,12 +65,12 @@ impl AnyMachine {
         for_make!(AnyMachine, self, machine => machine.get(k, index))
     }
 
-    // A run with a work area of so many qwords. One that is not 258 is refused whatever it is, so none is made for it.
-    pub fn run(&mut self, k: u16, budget: u64, work: u64) -> Result<RunEnd, Refusal>
-        ensures { Outcome (Run k budget work) (machine_state self.old) (ended_answer result) (machine_state self.new) }
+    pub fn run(&mut self, k: u16, budget: u64, work: &mut [u64]) -> Result<RunEnd, Refusal>
+        ensures outcome { Outcome (Run k budget (length work.old)) (machine_state self.old) (ended_answer result) (machine_state self.new) }
+        ensures wiped { is_ok result ≡ true → work.new ≡ replicate 258 0 }
+        ensures kept { is_err result ≡ true → work.new ≡ work.old }
     {
-        let length = if work == 258 { 258 } else { 0 };
-        for_make!(AnyMachine, self, machine => machine.run(k, budget, &mut [0u64; 258][..length]))
+        for_make!(AnyMachine, self, machine => machine.run(k, budget, work))
     }
 
     pub fn last(&self, k: u16) -> Result<Option<(u8, u64)>, Refusal>

@@ -1,6 +1,6 @@
 // The memory of a script, of whichever make was asked for.
 ghost use Rattle.std.specs.Prelude.{◌≡◌, length, replicate, IfOk};
-ghost use Rattle.makes.specs.Stores.{store_bytes, made_size};
+ghost use Rattle.makes.specs.Stores.{asked_kind, made_size, store_bytes, store_kind};
 
 use lines::MemoryMake;
 use memory::{Flat, Memory, Spliced, Words};
@@ -43,7 +43,7 @@ impl Store {
     // A memory of zeros.
     #[tactic(auto, using(crate::proofs::Zeros::cut_zeros, crate::proofs::Zeros::words_zeros, crate::proofs::Zeros::spliced_zeros))]
     pub fn new(heap: Global, make: MemoryMake) -> Result<Store, AllocError>
-        ensures { IfOk result (λ s. store_bytes s ≡ replicate (made_size make) 0) }
+        ensures { IfOk result (λ s. (store_kind s ≡ asked_kind make) × (store_bytes s ≡ replicate (made_size make) 0)) }
     {
         match make {
             MemoryMake::Flat(n) => Ok(Store::Flat(Flat::new(vec![in heap; 0u8; n as usize]?))),

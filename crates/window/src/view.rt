@@ -61,7 +61,7 @@ impl<M: Memory> View<'_, M> {
     pub fn qword(&self, address: u64) -> u64
         ensures { result ≡ loaded self.now 8 address }
     {
-        memory::load(
+        load_inside(
             self.memory,
             place(self.extent, Width::Qword, address),
             Width::Qword,

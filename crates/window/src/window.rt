@@ -83,6 +83,6 @@ impl<M: Memory> Window<'_, M> {
         ensures lent { self.new.memory.ghost_name ≡ self.old.memory.ghost_name }
     {
         let at = place(self.extent, Width::Qword, address);
-        memory::store(self.memory, at, Width::Qword, value);
+        store_inside(self.memory, at, Width::Qword, value);
     }
 }
