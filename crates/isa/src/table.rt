@@ -11,7 +11,7 @@ use memory::Width::{Byte, Long, Qword, Short};
 pub type Entry = (Operation, Form, u8);
 
 // A row for each opcode below 94.
-const TABLE: [Entry; 94] = [
+const TABLE: &[Entry; 94] = &[
     (Operation::Halt, Form::Plain, 1),
     (Operation::Nop, Form::Plain, 1),
     (Operation::BecomeUser, Form::Five, 6),
