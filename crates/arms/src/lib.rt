@@ -5,7 +5,7 @@
 ghost use Rattle.std.specs.Prelude.{◌≤◌};
 ghost use Rattle.isa.specs.Opcodes.{entry_of};
 
-use isa::{Form, Operation, entry};
+use isa::{Entry, Form, Operation, entry};
 
 // What does the rows.
 pub trait Rows {
@@ -16,10 +16,10 @@ pub trait Rows {
 
     ghost does: { Self → Entry → Self → Type 0 };
 
-    // A row is handed in by parts, so that they stay constants, and nothing comes back, so that no arm waits for another.
-    fn row(&mut self, operation: Operation, form: Form, length: u8)
+    // Nothing comes back, so that no arm waits for another.
+    fn row(&mut self, entry: Entry)
         requires { ready self.old }
-        ensures { does self.old (operation, form, length) self.new };
+        ensures { does self.old entry self.new };
 }
 
 // Does the row of an opcode that is a constant.
@@ -27,8 +27,7 @@ fn arm<R: Rows, const K: u8>(rows: &mut R)
     requires { R.Rows.ready rows.old }
     ensures { R.Rows.does rows.old (entry_of K) rows.new }
 {
-    let (operation, form, length) = entry(K);
-    rows.row(operation, form, length)
+    rows.row(entry(K))
 }
 
 fn unknown<R: Rows>(rows: &mut R, opcode: u8)
@@ -36,7 +35,7 @@ fn unknown<R: Rows>(rows: &mut R, opcode: u8)
     requires lacking { 94 ≤ opcode }
     ensures { R.Rows.does rows.old (entry_of opcode) rows.new }
 {
-    rows.row(Operation::Unknown, Form::Plain, 1)
+    rows.row((Operation::Unknown, Form::Plain, 1))
 }
 
 // An arm for each number of the list.

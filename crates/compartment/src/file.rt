@@ -19,8 +19,9 @@ pub(crate) fn take_in<M: Memory>(file: &View<'_, M>, saved: u16, registers: &mut
         registers[index] = file.qword(8 * index as u64);
     }
     registers[kept..256].fill(0);
-    registers[256] = file.qword(2048);
-    registers[257] = file.qword(2056);
+    // P and S.
+    registers[256] = file.qword(8 * 256);
+    registers[257] = file.qword(8 * 257);
 }
 
 // Writes the entries that last back from the bank; every other byte stays.
@@ -34,6 +35,6 @@ pub(crate) fn put_back<M: Memory>(file: &mut Window<'_, M>, saved: u16, bank: &B
     for index in 0..kept {
         file.put_qword(8 * index as u64, words[index]);
     }
-    file.put_qword(2048, words[256]);
-    file.put_qword(2056, words[257]);
+    file.put_qword(8 * 256, words[256]);
+    file.put_qword(8 * 257, words[257]);
 }

@@ -30,6 +30,7 @@ impl<M: Memory> Processor<'_, '_, '_, M> {
     }
 
     // One match, since each operation has its own row. A register is read where it is a source.
+    #[inline(always)]
     pub(crate) fn weigh(&self, operation: Operation, i: Operands) -> Effect
         ensures { result ≡ effect_of operation i (sources_of (config_of self.now).registers i) }
     {

@@ -13,7 +13,7 @@ ghost use Rattle.cpu.specs.declared.rest.Rest.TheVariants.{Nothing};
 use super::rest::Rest;
 use arms::{Rows, do_row};
 use bank::{Bank, Register};
-use isa::{Effect, End, Form, Instruction, Operands, Operation};
+use isa::{Effect, End, Entry, Instruction};
 use memory::{Memory, Width};
 use window::Window;
 
@@ -87,6 +87,7 @@ impl<M: Memory> Processor<'_, '_, '_, M> {
     }
 
     // Moves the registers as the effect says; what is left to do of an instruction that was begun at p.
+    #[inline(always)]
     fn settle(&mut self, p: u64, effect: Effect) -> Rest
         ensures left { finished result (config_of self.new) ≡ performed effect (begun (config_of self.old) p) (config_of self.old) }
         ensures next { Reaches self.old self.new (config_of self.new) }
@@ -124,6 +125,7 @@ impl<M: Memory> Processor<'_, '_, '_, M> {
     }
 
     // Does the access that is left; the end, where the instruction ends the run.
+    #[inline(always)]
     fn finish(&mut self, rest: Rest) -> Option<End>
         ensures end { result ≡ (finished rest (config_of self.old)).end }
         ensures next { Reaches self.old self.new (finished rest (config_of self.old)).next }
@@ -140,13 +142,18 @@ impl<M: Memory> Processor<'_, '_, '_, M> {
         None
     }
 
-    // P moves on, the sources are read, and the effect follows. What an opcode's arm knows of the instruction stands for
-    // itself, so that it stays a constant.
+    // P moves on, the sources are read, and the effect follows.
     #[tactic(auto, using(crate::proofs::Passing::begun_is))]
-    fn obey(&mut self, operation: Operation, operands: Operands, length: u8)
-        ensures end { self.new.ended ≡ (obeyed (config_of self.old) (record { operation = operation; operands = operands; length = length })).end }
-        ensures next { Reaches self.old self.new (obeyed (config_of self.old) (record { operation = operation; operands = operands; length = length })).next }
+    #[inline(always)]
+    fn obey(&mut self, instruction: Instruction)
+        ensures end { self.new.ended ≡ (obeyed (config_of self.old) instruction).end }
+        ensures next { Reaches self.old self.new (obeyed (config_of self.old) instruction).next }
     {
+        let Instruction {
+            operation,
+            operands,
+            length,
+        } = instruction;
         let p = self.get(Register::P);
         self.set(Register::P, p.wrapping_add(u64::from(length)));
         let effect = self.weigh(operation, operands);
@@ -159,11 +166,7 @@ impl<M: Memory> Processor<'_, '_, '_, M> {
         ensures end { result ≡ (obeyed (config_of self.old) instruction).end }
         ensures next { Reaches self.old self.new (obeyed (config_of self.old) instruction).next }
     {
-        self.obey(
-            instruction.operation,
-            instruction.operands,
-            instruction.length,
-        );
+        self.obey(instruction);
         self.ended
     }
 
@@ -215,9 +218,9 @@ impl<M: Memory> Rows for Processor<'_, '_, '_, M> {
 
     ghost does = { Does };
 
-    #[tactic(auto, unfolding(isa::specs::Reading::instruction_of))]
-    fn row(&mut self, operation: Operation, form: Form, length: u8) {
-        let operands = self.window.operands(self.get(Register::P), form);
-        self.obey(operation, operands, length);
+    #[inline(always)]
+    fn row(&mut self, entry: Entry) {
+        let instruction = self.window.instruction_inside(self.get(Register::P), entry);
+        self.obey(instruction);
     }
 }

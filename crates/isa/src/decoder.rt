@@ -7,8 +7,7 @@ ghost use Rattle.isa.specs.Reading.{decoded, instruction_of, operands, operands_
 use super::code::Code;
 use super::form::Form;
 use super::instruction::{Instruction, Operands};
-use super::operation::Operation;
-use super::table::entry;
+use super::table::{Entry, entry};
 use memory::Width;
 
 // A register number, and a literal, an address or an offset of the width.
@@ -23,7 +22,8 @@ fn literal<C: Code>(code: &C, width: Width) -> Operands
 }
 
 // The operands of an instruction at p, each by an access of its own. An arm for each form, as the page has a row for each.
-pub fn read_operands<C: Code>(code: &C, form: Form) -> Operands
+#[inline(always)]
+pub(crate) fn read_operands<C: Code>(code: &C, form: Form) -> Operands
     ensures { result ≡ operands_at form (C.Code.shown code.now) (C.Code.start code.now) }
 {
     match form {
@@ -61,15 +61,12 @@ pub fn read_operands<C: Code>(code: &C, form: Form) -> Operands
     }
 }
 
-// The instruction of a row of the table, which is handed in by parts, so that they stay constants where they are known.
-pub(crate) fn instruction<C: Code>(
-    code: &C,
-    operation: Operation,
-    form: Form,
-    length: u8,
-) -> Instruction
-    ensures { result ≡ instruction_of (operation, form, length) (C.Code.shown code.now) (C.Code.start code.now) }
+// The instruction of a row of the table.
+#[inline(always)]
+pub fn decode_row<C: Code>(code: &C, row: Entry) -> Instruction
+    ensures { result ≡ instruction_of row (C.Code.shown code.now) (C.Code.start code.now) }
 {
+    let (operation, form, length) = row;
     Instruction {
         operation,
         operands: read_operands(code, form),
@@ -77,17 +74,9 @@ pub(crate) fn instruction<C: Code>(
     }
 }
 
-// The instruction of an opcode that was read.
-pub(crate) fn look_up<C: Code>(code: &C, opcode: u8) -> Instruction
-    ensures { result ≡ instruction_of (entry_of opcode) (C.Code.shown code.now) (C.Code.start code.now) }
-{
-    let (operation, form, length) = entry(opcode);
-    instruction(code, operation, form, length)
-}
-
 // The instruction that the code shows.
 pub fn decode<C: Code>(code: &C) -> Instruction
     ensures { result ≡ decoded (C.Code.shown code.now) (C.Code.start code.now) }
 {
-    look_up(code, code.opcode())
+    decode_row(code, entry(code.opcode()))
 }

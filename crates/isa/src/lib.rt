@@ -11,7 +11,7 @@ mod operation;
 mod table;
 
 pub use code::Code;
-pub use decoder::{decode, read_operands};
+pub use decoder::{decode, decode_row};
 pub use effect::Effect;
 pub use end::End;
 pub use form::Form;

@@ -8,7 +8,15 @@ use Rattle.std.proofs.lemmas.Bool.{cases_eq, cases_lt}
 use Rattle.memory.specs.Bytes.{bytes_of, bytes_of_all, value_at}
 use Rattle.memory.specs.Elements.{length-bytes_of}
 
--- what `to_be_bytes` gives
+-- what `to_be_bytes` gives, at each size
+pub to_be_2 : (v : ℕ) → (v / 256 % 256) ∷ (v % 256) ∷ [] ≡ bytes_of 2 v
+unfolding bytes_of
+to_be_2 v = refl
+
+pub to_be_4 : (v : ℕ) → (v / 16777216 % 256) ∷ (v / 65536 % 256) ∷ (v / 256 % 256) ∷ (v % 256) ∷ [] ≡ bytes_of 4 v
+unfolding bytes_of
+to_be_4 v = simp div-div-eq-div-mul
+
 pub to_be : (v : ℕ) → (v / 72057594037927936 % 256) ∷ (v / 281474976710656 % 256) ∷ (v / 1099511627776 % 256) ∷ (v / 4294967296 % 256) ∷ (v / 16777216 % 256) ∷ (v / 65536 % 256) ∷ (v / 256 % 256) ∷ (v % 256) ∷ [] ≡ bytes_of 8 v
 unfolding bytes_of
 to_be v = simp div-div-eq-div-mul

@@ -95,6 +95,10 @@ pub put_none : (xs : List ℕ) (a v : ℕ) → xs ≡ put_at xs a 0 v
 unfolding put_at
 put_none xs a v = refl
 
+pub put_more : (xs : List ℕ) (a n v : ℕ) {k y : ℕ} {ys zs : List ℕ} → ys ≡ set xs k y → k ≡ a + n → y ≡ v % 256 → zs ≡ put_at ys a n (v / 256) → zs ≡ put_at xs a (suc n) v
+unfolding put_at
+put_more xs a n v w e f rest = rest ∙ ap (λ (l : List ℕ). put_at l a n (v / 256)) (rw (← e, ← f) w)
+
 -- a store leaves what lies before and behind it
 take-put_at : (bs : List ℕ) (a n v : ℕ) → take a (put_at bs a n v) ≡ take a bs
 unfolding put_at

@@ -33,5 +33,10 @@ pub fn store_inside<M: Memory>(memory: &mut M, address: u64, width: Width, value
     requires { address + width_bytes width ≤ length (M.Memory.bytes memory.old) }
     ensures { M.Memory.bytes memory.new ≡ put_at (M.Memory.bytes memory.old) address (width_bytes width) value }
 {
-    memory.write_bytes(address, width, value.to_be_bytes());
+    match width {
+        Width::Byte => memory.write_inside(address, (value & 0xff) as u8),
+        Width::Short => memory.write_bytes(address, &((value & 0xffff) as u16).to_be_bytes()),
+        Width::Long => memory.write_bytes(address, &((value & 0xffff_ffff) as u32).to_be_bytes()),
+        Width::Qword => memory.write_qword(address, value.to_be_bytes()),
+    }
 }

@@ -1,9 +1,6 @@
 // The meaning that every make of a memory keeps: a list of bytes.
 ghost use Rattle.std.specs.Prelude.{◌≡◌, ℕ, ◌+◌, ◌^◌, ◌<◌, ◌≤◌, List, length, slice_index, slice_set};
 ghost use Rattle.memory.specs.Bytes.{value_at, put_at};
-ghost use Rattle.memory.specs.Widths.{width_bytes};
-
-use super::width::Width;
 
 // No memory has more bytes than this.
 pub(crate) const LIMIT: u64 = 0x1_0000_0000;
@@ -23,7 +20,7 @@ pub trait Memory {
     fn write(&mut self, address: u64, byte: u8)
         ensures value { bytes self.new ≡ slice_set (bytes self.old) address byte };
 
-    // The same where the memory is known to have the places. A further make need not write these three; one that does may
+    // The same where the memory is known to have the places. A further make need not write these four; one that does may
     // leave out the test of the address.
     fn read_inside(&self, address: u64) -> u8
         requires { address < length (bytes self.now) }
@@ -39,14 +36,23 @@ pub trait Memory {
         self.write(address, byte);
     }
 
-    // As many bytes as the width has, the last ones of an array, in their places from the address on, the last one first.
-    fn write_bytes(&mut self, address: u64, width: Width, digits: [u8; 8])
-        requires { address + width_bytes width ≤ length (bytes self.old) }
-        ensures value { bytes self.new ≡ put_at (bytes self.old) address (width_bytes width) (value_at digits 0 8) }
+    // Several bytes, in their places from the address on, the last one first.
+    fn write_bytes(&mut self, address: u64, digits: &[u8])
+        requires { address + length digits.now ≤ length (bytes self.old) }
+        ensures value { bytes self.new ≡ put_at (bytes self.old) address (length digits.now) (value_at digits.now 0 (length digits.now)) }
     {
-        let first = 8 - width.bytes();
-        for i in (0..width.bytes()).rev() {
-            self.write_inside(address + i, digits[(first + i) as usize]);
+        for (i, digit) in digits.iter().enumerate().rev() {
+            self.write_inside(address + i as u64, *digit);
+        }
+    }
+
+    // A qword by its eight bytes, one after the other, the last one first.
+    fn write_qword(&mut self, address: u64, digits: [u8; 8])
+        requires { address + 8 ≤ length (bytes self.old) }
+        ensures value { bytes self.new ≡ put_at (bytes self.old) address 8 (value_at digits 0 8) }
+    {
+        for (i, byte) in digits.iter().enumerate().rev() {
+            self.write_inside(address + i as u64, *byte);
         }
     }
 

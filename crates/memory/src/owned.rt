@@ -2,12 +2,10 @@
 ghost use Rattle.std.specs.Prelude.{◌≡◌, ◌+◌, ◌<◌, ◌≤◌, length, slice_set};
 ghost use Rattle.memory.specs.Bytes.{cut, past, value_at, put_at};
 ghost use Rattle.memory.specs.Makes.{owned_bytes};
-ghost use Rattle.memory.specs.Widths.{width_bytes};
 ghost use Rattle.memory.specs.Cuts.{cut_short};
 
 use super::element::Element;
 use super::meaning::{LIMIT, Memory};
-use super::width::Width;
 
 #[derive(Drop)]
 pub struct Owned<E> {
@@ -83,17 +81,24 @@ impl<E: Element> Memory for Owned<E> {
 
     // Through a slice: no write can then reach what the vector keeps of itself, so the compiler looks up once where the
     // numbers stand, and joins the writes.
-    fn write_bytes(&mut self, address: u64, width: Width, digits: [u8; 8])
-        requires { address + width_bytes width ≤ length (owned_bytes E.spread self.old) }
-        ensures value { owned_bytes E.spread self.new ≡ put_at (owned_bytes E.spread self.old) address (width_bytes width) (value_at digits 0 8) }
+    fn write_bytes(&mut self, address: u64, digits: &[u8])
+        requires { address + length digits.now ≤ length (owned_bytes E.spread self.old) }
+        ensures value { owned_bytes E.spread self.new ≡ put_at (owned_bytes E.spread self.old) address (length digits.now) (value_at digits.now 0 (length digits.now)) }
         ensures rest { past (E.spread self.new.held.items) ≡ past (E.spread self.old.held.items) }
     {
         let held = self.held.as_mut_slice();
-        let first = 8 - width.bytes();
-        for i in (0..width.bytes()).rev() {
-            let at = address + i;
+        for (i, digit) in digits.iter().enumerate().rev() {
+            let at = address + i as u64;
             let number = &mut held[(at / E::BYTES) as usize];
-            *number = number.with_byte(at % E::BYTES, digits[(first + i) as usize]);
+            *number = number.with_byte(at % E::BYTES, *digit);
         }
+    }
+
+    fn write_qword(&mut self, address: u64, digits: [u8; 8])
+        requires { address + 8 ≤ length (owned_bytes E.spread self.old) }
+        ensures value { owned_bytes E.spread self.new ≡ put_at (owned_bytes E.spread self.old) address 8 (value_at digits 0 8) }
+        ensures rest { past (E.spread self.new.held.items) ≡ past (E.spread self.old.held.items) }
+    {
+        self.write_bytes(address, &digits);
     }
 }

@@ -1,6 +1,6 @@
 // A window as it is read and written.
 ghost use Rattle.std.specs.Prelude.{◌≡◌, ◌+◌, ◌≤◌};
-ghost use Rattle.isa.specs.Reading.{decoded, operands_at};
+ghost use Rattle.isa.specs.Reading.{decoded, instruction_of};
 ghost use Rattle.isa.specs.Windows.{load as loaded, store as stored};
 ghost use Rattle.memory.specs.Widths.{width_bytes};
 ghost use Rattle.window.specs.Views.{Whole};
@@ -8,7 +8,7 @@ ghost use Rattle.window.specs.Views.{Whole};
 use super::code::{Anywhere, Inside};
 use super::extent::Extent;
 use super::view::{View, place};
-use isa::{Code, Form, Instruction, Operands, decode, read_operands};
+use isa::{Code, Entry, Instruction, decode, decode_row};
 use memory::{Memory, Width, store_inside};
 
 // The bytes of an extent that the memory has whole, and that may change. No model hides the memory: its lender would
@@ -41,7 +41,7 @@ impl<M: Memory> Window<'_, M> {
         })
     }
 
-    // Of an instruction that lies in the window whole: its opcode, and its operands by their form. No access is placed.
+    // Of an instruction that lies in the window whole: its opcode, and the instruction by its opcode's row. No access is placed.
     pub fn opcode(&self, p: u64) -> u8
         requires { p + 10 ≤ self.now.extent.max + 1 }
         ensures { result ≡ loaded (parts_of self.now).window 1 p }
@@ -49,11 +49,12 @@ impl<M: Memory> Window<'_, M> {
         self.code(p).opcode()
     }
 
-    pub fn operands(&self, p: u64, form: Form) -> Operands
+    #[inline(always)]
+    pub fn instruction_inside(&self, p: u64, row: Entry) -> Instruction
         requires { p + 10 ≤ self.now.extent.max + 1 }
-        ensures { result ≡ operands_at form (parts_of self.now).window p }
+        ensures { result ≡ instruction_of row (parts_of self.now).window p }
     {
-        read_operands(&self.code(p), form)
+        decode_row(&self.code(p), row)
     }
 
     fn code(&self, p: u64) -> Inside<'_, M>

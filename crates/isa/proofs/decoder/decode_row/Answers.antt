@@ -1,6 +1,6 @@
 use Rattle.std.proofs.Common.{rules}
 use Rattle.isa.specs.Reading.{instruction_of}
-use Rattle.isa.proofs.decoder.instruction.Goals as goal
+use Rattle.isa.proofs.decoder.decode_row.Goals as goal
 
 pub returns : goal.returns
 unfolding instruction_of
