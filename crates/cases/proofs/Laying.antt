@@ -1,72 +1,90 @@
--- One row, its window at the start of the memory: which grounds apply, by where its register file lies.
-use Rattle.std.proofs.Common.{◌≡◌, ℕ, zero, suc, ◌+◌, ◌<◌, ◌≤◌, refl, inl, inr, ⊎_elim, arith}
-use Rattle.plan.specs.Areas.{Crosses, Shares, row_at}
-use Rattle.plan.specs.Grounds.{ground_number, Applies, Overlaps, Precedes}
+-- What laying rows answers, by tests: each gives the proof of what it says.
+use Rattle.std.proofs.Common.{ℕ, suc, ◌+◌, ◌^◌, ◌<◌, List, length, ◌⊎◌, inl, inr, arith}
+use Rattle.std.proofs.lemmas.Bool.{cases_lt}
+use Rattle.plan.specs.Areas.{Crosses, InFile, InWindow, Shares, Within, row_at}
+use Rattle.plan.specs.Grounds.{Applies, OtherRow, Overlaps}
 use Rattle.plan.specs.declared.ground.Ground.{Ground}
 use Rattle.plan.specs.declared.ground.Ground.TheVariants.{Rows, Size, Short, Saved, Outside, Overlap}
-use Rattle.cases.specs.Layings.{rows_with, Accepted, RefusedBy}
+use Rattle.plan.specs.declared.row.Row.{Row}
+use Rattle.cases.proofs.Deciding.{Dec, both, either, as_well, below, equal, some_below}
 
--- the grounds before the register file's place
-early : (file : ℕ) (g : Ground) (i : ℕ) → ground_number g < 105 → Applies g (rows_with file) 8192 i → ⊥
-early file Rows i l (z, h) = ⊎_elim (λ (e : 1 ≡ 0). omega arith) (λ (m : 16 < 1). omega arith) h
-early file Size i l (z, h) = omega arith
-early file Short zero l (b, h) = omega arith
-early file Short (suc i) l (b, h) = omega arith
-early file Saved zero l (b, h) = ⊎_elim (λ (m : 1 < 1). omega arith) (λ (m : 256 < 1). omega arith) h
-early file Saved (suc i) l (b, h) = omega arith
-early file Outside i l h = omega arith
-early file Overlap i l h = omega arith
+abbrev pub Nonempty : ℕ → ℕ → ℕ → ℕ → Type 0
+Nonempty a b c d = (a < b) × ((c < d) × ((a < d) × (c < b)))
 
-module _ (file : ℕ) (low : file + 2064 ≤ 8192) where
-  inside : (i : ℕ) → Applies Outside (rows_with file) 8192 i → ⊥
-  inside zero (b, h) = ⊎_elim (λ (m : 8192 < 4096). omega arith) (λ (m : 8192 < file + 2064). omega arith) h
-  inside (suc i) (b, h) = omega arith
+abbrev pub Meet : ℕ → ℕ → ℕ → ℕ → Type 0
+Meet a b c d = (x : ℕ) × (Within a b x × Within c d x)
 
-  apart : (i : ℕ) → 4096 ≤ file → Applies Overlap (rows_with file) 8192 i → ⊥
-  apart zero above (b, (j, h)) = ⊎_elim
-      (λ (m : (j ≡ 0) × Crosses (row_at (rows_with file) 0)). omega (arith, m.1.1.0.1, m.1.1.1.0))
-      (λ (m : (j < 0) × Shares (row_at (rows_with file) 0) (row_at (rows_with file) j)). omega (arith, m.0))
-      h
-  apart (suc i) above (b, (j, h)) = omega arith
+pub meets : (a b c d : ℕ) → Nonempty a b c d → Meet a b c d
+meets a b c d (p, (q, (r, s))) =
+    elim (cases_lt a c) [
+      | inl l ↦ (c, ((omega arith, omega arith), (omega arith, omega arith)))
+      | inr l ↦ (a, ((omega arith, omega arith), (omega arith, omega arith)))
+    ]
 
-  pub accepted : 4096 ≤ file → Accepted file
-  accepted above Rows i h = early file Rows i (omega arith) h
-  accepted above Size i h = early file Size i (omega arith) h
-  accepted above Short i h = early file Short i (omega arith) h
-  accepted above Saved i h = early file Saved i (omega arith) h
-  accepted above Outside i h = inside i h
-  accepted above Overlap i h = apart i above h
+pub met : (a b c d : ℕ) → Meet a b c d → Nonempty a b c d
+met a b c d (x, ((p, q), (r, s))) = (omega arith, (omega arith, (omega arith, omega arith)))
 
--- no ground before this one at row 0 applies
-first : (file : ℕ) (ground : Ground) → ((g : Ground) → ground_number g < ground_number ground → Applies g (rows_with file) 8192 0 → ⊥) → (g : Ground) (i : ℕ) → Precedes g i ground 0 → Applies g (rows_with file) 8192 i → ⊥
-first file ground none g zero p h = ⊎_elim (λ (m : 0 < 0). omega arith) (λ (m : (0 ≡ 0) × (ground_number g < ground_number ground)). none g m.1 h) p
-first file ground none g (suc i) p h = ⊎_elim (λ (m : suc i < 0). omega arith) (λ (m : (suc i ≡ 0) × (ground_number g < ground_number ground)). omega (arith, m.0)) p
+abbrev pub meeting : (a b c d : ℕ) → Dec (Meet a b c d)
+meeting a b c d =
+    as_well (Nonempty a b c d) (Meet a b c d) (meets a b c d) (met a b c d)
+    (both _ _ (below a b) (both _ _ (below c d) (both _ _ (below a d) (below c b))))
 
-before_overlap : (file : ℕ) → file + 2064 ≤ 8192 → (g : Ground) → ground_number g < 106 → Applies g (rows_with file) 8192 0 → ⊥
-before_overlap file low Rows l h = early file Rows 0 (omega arith) h
-before_overlap file low Size l h = early file Size 0 (omega arith) h
-before_overlap file low Short l h = early file Short 0 (omega arith) h
-before_overlap file low Saved l h = early file Saved 0 (omega arith) h
-before_overlap file low Outside l h = inside file low 0 h
-before_overlap file low Overlap l h = omega arith
+abbrev pub crossing : (r : Row) → Dec (Crosses r)
+crossing r = meeting r.off (r.off + r.max + 1) r.file (r.file + 2064)
 
-crossed : Overlaps (rows_with 4095) 0 0
-crossed = inl (refl, (4095, ((omega arith, omega arith), (omega arith, omega arith))))
+abbrev pub ByAreas : Row → Row → Type 0
+ByAreas r q =
+    (((a : ℕ) × (InWindow r a × InWindow q a)) ⊎ ((a : ℕ) × (InWindow r a × InFile q a)))
+    ⊎ (((a : ℕ) × (InFile r a × InWindow q a)) ⊎ ((a : ℕ) × (InFile r a × InFile q a)))
 
-pub overlapping : RefusedBy Overlap 4095
-overlapping = (
-  record { ground = Overlap; row = 0; other = 0 },
-  refl,
-  refl,
-  refl,
-  record { ground_applies = (omega arith, (0, crossed)); first = first 4095 Overlap (before_overlap 4095 (omega arith)); other_row = crossed },
-)
+pub shares : (r q : Row) → ByAreas r q → Shares r q
+shares r q (inl (inl (a, (p, s)))) = (a, (inl p, inl s))
+shares r q (inl (inr (a, (p, s)))) = (a, (inl p, inr s))
+shares r q (inr (inl (a, (p, s)))) = (a, (inr p, inl s))
+shares r q (inr (inr (a, (p, s)))) = (a, (inr p, inr s))
 
-pub outside : RefusedBy Outside 6129
-outside = (
-  record { ground = Outside; row = 0; other = 0 },
-  refl,
-  refl,
-  refl,
-  record { ground_applies = (omega arith, inr (omega arith)); first = first 6129 Outside (λ g l h. early 6129 g 0 l h); other_row = refl },
-)
+pub shared : (r q : Row) → Shares r q → ByAreas r q
+shared r q (a, (inl p, inl s)) = inl (inl (a, (p, s)))
+shared r q (a, (inl p, inr s)) = inl (inr (a, (p, s)))
+shared r q (a, (inr p, inl s)) = inr (inl (a, (p, s)))
+shared r q (a, (inr p, inr s)) = inr (inr (a, (p, s)))
+
+abbrev pub sharing : (r q : Row) → Dec (Shares r q)
+sharing r q =
+    as_well (ByAreas r q) (Shares r q) (shares r q) (shared r q)
+    (either _ _
+    (either _ _ (meeting r.off (r.off + r.max + 1) q.off (q.off + q.max + 1)) (meeting r.off (r.off + r.max + 1) q.file (q.file + 2064)))
+    (either _ _ (meeting r.file (r.file + 2064) q.off (q.off + q.max + 1)) (meeting r.file (r.file + 2064) q.file (q.file + 2064))))
+
+abbrev pub overlapping : (rows : List Row) (i j : ℕ) → Dec (Overlaps rows i j)
+overlapping rows i j =
+    either _ _ (both _ _ (equal j i) (crossing (row_at rows i))) (both _ _ (below j i) (sharing (row_at rows i) (row_at rows j)))
+
+pub some_row : (rows : List Row) (i : ℕ) → (j : ℕ) × ((j < suc i) × Overlaps rows i j) → (j : ℕ) × Overlaps rows i j
+some_row rows i (j, (l, o)) = (j, o)
+
+pub low_row : (rows : List Row) (i : ℕ) → (j : ℕ) × Overlaps rows i j → (j : ℕ) × ((j < suc i) × Overlaps rows i j)
+low_row rows i (j, inl (e, c)) = (j, (omega arith, inl (e, c)))
+low_row rows i (j, inr (l, s)) = (j, (omega arith, inr (l, s)))
+
+abbrev pub applying : (g : Ground) (rows : List Row) (laid i : ℕ) → Dec (Applies g rows laid i)
+applying Rows rows laid i = both _ _ (equal i 0) (either _ _ (equal (length rows) 0) (below 16 (length rows)))
+applying Size rows laid i = both _ _ (equal i 0) (below (2 ^ 32) laid)
+applying Short rows laid i = both _ _ (below i (length rows)) (below (row_at rows i).max 7)
+applying Saved rows laid i =
+    both _ _ (below i (length rows)) (either _ _ (below (row_at rows i).saved 1) (below 256 (row_at rows i).saved))
+applying Outside rows laid i =
+    both _ _ (below i (length rows))
+    (either _ _ (below laid ((row_at rows i).off + (row_at rows i).max + 1)) (below laid ((row_at rows i).file + 2064)))
+applying Overlap rows laid i =
+    both _ _ (below i (length rows))
+    (as_well ((j : ℕ) × ((j < suc i) × Overlaps rows i j)) ((j : ℕ) × Overlaps rows i j) (some_row rows i) (low_row rows i)
+    (some_below (suc i) (λ j. Overlaps rows i j) (λ j. overlapping rows i j)))
+
+abbrev pub other_row : (g : Ground) (rows : List Row) (i j : ℕ) → Dec (OtherRow g rows i j)
+other_row Rows rows i j = equal j 0
+other_row Size rows i j = equal j 0
+other_row Short rows i j = equal j i
+other_row Saved rows i j = equal j i
+other_row Outside rows i j = equal j i
+other_row Overlap rows i j = overlapping rows i j

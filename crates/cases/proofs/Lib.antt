@@ -1,2 +1,3 @@
+pub mod Deciding
 pub mod Laying
-pub mod Listing
+pub mod Answering

@@ -1,18 +1,111 @@
--- A worked laying: one row of off 0, max 4,095 and saved 1 under a laid size of 8,192, with its register file at a given address.
-use Rattle.std.specs.Prelude.{◌≡◌, ℕ, List, [], ◌∷◌}
-use Rattle.plan.specs.Grounds.{Faultless, Refuses}
+-- A worked laying: rows and a laid size, and what laying them answers.
+use Rattle.std.specs.Prelude.{◌≡◌, ℕ, ◌+◌, ◌*◌, ◌-◌, ◌^◌, List, [], ◌∷◌, ◌++◌, map}
+use Rattle.std.specs.List.{AllByRecursion, range_with_len}
+use Rattle.plan.specs.Grounds.{Faultless, Refuses as IsRefused, ground_number}
 use Rattle.plan.specs.declared.row.Row.{Row}
-use Rattle.plan.specs.declared.ground.Ground.{Ground}
 use Rattle.plan.specs.declared.ground.LayRefusal.{LayRefusal}
 
-abbrev pub rows_with : ℕ → List Row
-rows_with file = record { off = 0; max = 4095; file = file; saved = 1 } ∷ []
+-- Accepted; or refused with this number, row and other row.
+pub data Laying : Type 0 where
+  Accepts : ℕ → List Row → Laying
+  Refuses : ℕ → List Row → ℕ → ℕ → ℕ → Laying
 
--- No ground applies.
-abbrev pub Accepted : ℕ → Type 0
-Accepted file = Faultless (rows_with file) 8192
+abbrev pub Holds : Laying → Type 0
+Holds (Accepts laid rows) = Faultless rows laid
+Holds (Refuses laid rows number row other) =
+    (e : LayRefusal) × (ground_number e.ground ≡ number) × (e.row ≡ row) × (e.other ≡ other) × IsRefused rows laid e
 
--- The refusal with that ground, for row 0 and no other, is due.
-abbrev pub RefusedBy : Ground → ℕ → Type 0
-RefusedBy g file =
-    (e : LayRefusal) × (e.ground ≡ g) × (e.row ≡ 0) × (e.other ≡ 0) × Refuses (rows_with file) 8192 e
+abbrev pub LayingsHold : List Laying → Type 0
+LayingsHold cases = AllByRecursion Holds cases
+
+-- A row's off, max, file and saved.
+abbrev pub row : ℕ → ℕ → ℕ → ℕ → Row
+row off max file saved = record { off = off; max = max; file = file; saved = saved }
+
+-- One row, its window the bytes 0 to 4,095, its register file from this address on.
+abbrev pub filed_at : ℕ → List Row
+filed_at file = row 0 4095 file 256 ∷ []
+
+-- n rows, each of 8,192 bytes.
+abbrev pub rows_apart : ℕ → List Row
+rows_apart n = map (λ k. row (8192 * k) 4095 (8192 * k + 4096) 256) (range_with_len 0 n)
+
+abbrev pub layings : List Laying
+layings =
+    Accepts 8192 (filed_at 4096) ∷
+    Accepts 8192 (filed_at 6128) ∷
+    Refuses 8192 (filed_at 4095) 106 0 0 ∷
+    Refuses 8192 (filed_at 6129) 105 0 0 ∷
+    []
+
+-- 101: no rows, one, sixteen and seventeen.
+abbrev pub row_counts : List Laying
+row_counts =
+    Refuses 8192 [] 101 0 0 ∷
+    Accepts 8192 (rows_apart 1) ∷
+    Accepts (8192 * 16) (rows_apart 16) ∷
+    Refuses (8192 * 17) (rows_apart 17) 101 0 0 ∷
+    []
+
+-- 102: the laid size 2 ^ 32 and one more.
+abbrev pub laid_sizes : List Laying
+laid_sizes =
+    Accepts (2 ^ 32) (rows_apart 1) ∷
+    Refuses (2 ^ 32 + 1) (rows_apart 1) 102 0 0 ∷
+    []
+
+-- 103 and 104: max 7 and 6; saved 1, 256, 0 and 257.
+abbrev pub row_fields : List Laying
+row_fields =
+    Accepts 8192 (row 0 7 8 1 ∷ []) ∷
+    Refuses 8192 (row 0 6 8 1 ∷ []) 103 0 0 ∷
+    Accepts 8192 (row 0 7 8 256 ∷ []) ∷
+    Refuses 8192 (row 0 7 8 0 ∷ []) 104 0 0 ∷
+    Refuses 8192 (row 0 7 8 257 ∷ []) 104 0 0 ∷
+    []
+
+-- 105: the window, then the register file, area_ends at the laid size and one byte behind it; sums do not wrap.
+abbrev pub area_ends : List Laying
+area_ends =
+    Accepts 4096 (row 4088 7 0 256 ∷ []) ∷
+    Refuses 4096 (row 4089 7 0 256 ∷ []) 105 0 0 ∷
+    Refuses 4096 (row 4088 8 0 256 ∷ []) 105 0 0 ∷
+    Accepts 4096 (row 0 7 2032 256 ∷ []) ∷
+    Refuses 4096 (row 0 7 2033 256 ∷ []) 105 0 0 ∷
+    Refuses 4096 (row (2 ^ 64 - 1) 7 0 256 ∷ []) 105 0 0 ∷
+    Refuses 4096 (row 0 7 (2 ^ 64 - 1) 256 ∷ []) 105 0 0 ∷
+    []
+
+-- Window 0 to 7 and file 8 to 2,071; window 3,000 to 3,007 and file 4,000 to 6,063.
+abbrev pub two_rows : List Row
+two_rows = row 0 7 8 256 ∷ row 3000 7 4000 256 ∷ []
+
+-- 106: areas that touch, and areas that share one byte, of the row itself and of each earlier row.
+abbrev pub overlaps : List Laying
+overlaps =
+    Accepts 8192 (row 0 7 8 256 ∷ []) ∷
+    Refuses 8192 (row 0 7 7 256 ∷ []) 106 0 0 ∷
+    Accepts 8192 (row 2064 7 0 256 ∷ []) ∷
+    Refuses 8192 (row 2063 7 0 256 ∷ []) 106 0 0 ∷
+    Accepts 10000 (two_rows ++ row 2072 7 6064 256 ∷ []) ∷
+    Refuses 10000 (two_rows ++ row 2071 7 6064 256 ∷ []) 106 2 0 ∷
+    Refuses 10000 (two_rows ++ row 7 7 6064 256 ∷ []) 106 2 0 ∷
+    Accepts 10000 (two_rows ++ row 2992 7 6064 256 ∷ []) ∷
+    Refuses 10000 (two_rows ++ row 2993 7 6064 256 ∷ []) 106 2 1 ∷
+    Refuses 10000 (two_rows ++ row 3007 7 6064 256 ∷ []) 106 2 1 ∷
+    Refuses 10000 (two_rows ++ row 2072 7 6063 256 ∷ []) 106 2 1 ∷
+    Refuses 10000 (row 5000 7 0 256 ∷ row 4000 7 5007 256 ∷ []) 106 1 0 ∷
+    Accepts 10000 (row 5000 7 0 256 ∷ row 4000 7 5008 256 ∷ []) ∷
+    []
+
+-- Two grounds: the first row that has one, and the lowest number at that row.
+abbrev pub orders : List Laying
+orders =
+    Refuses (2 ^ 32 + 1) [] 101 0 0 ∷
+    Refuses (2 ^ 32 + 1) (row 0 6 8 256 ∷ []) 102 0 0 ∷
+    Refuses 8192 (row 0 6 8 0 ∷ []) 103 0 0 ∷
+    Refuses 8192 (row 0 8192 8 0 ∷ []) 104 0 0 ∷
+    Refuses 8192 (row 0 8192 8 256 ∷ []) 105 0 0 ∷
+    Refuses 8192 (row 0 7 7 256 ∷ row 0 6 8 256 ∷ []) 106 0 0 ∷
+    Refuses 8192 (row 0 7 8 256 ∷ row 4000 6 0 256 ∷ []) 103 1 1 ∷
+    []

@@ -1,3 +1,10 @@
 pub mod Runs
-pub mod Layings
+pub mod Rows
 pub mod Worked
+pub mod Ending
+pub mod Moving
+pub mod Computing
+pub mod Widening
+pub mod Stacking
+pub mod Readings
+pub mod Layings

@@ -1,6 +1,9 @@
--- A worked run: what a compartment starts from, and what the run leaves.
-use Rattle.std.specs.Prelude.{◌≡◌, ℕ, ◌-◌, List, [], ◌∷◌, ◌++◌, length, replicate, slice_set}
+-- A worked run: what it starts from, and what it leaves.
+use Rattle.std.specs.Prelude.{◌≡◌, ℕ, ◌-◌, List, [], ◌∷◌, ◌++◌, length, map, replicate, slice_set}
 use Rattle.memory.specs.Bytes.{bytes_of_all}
+use Rattle.isa.specs.Ends.{end_code}
+use Rattle.isa.specs.Steps.{Config}
+use Rattle.isa.specs.Runs.{Ran, ran}
 use Rattle.isa.specs.Compartments.{compartment_ran}
 
 -- The bytes from address 0 on, the entries of the register file by index, the saved count and the budget; then the
@@ -27,7 +30,24 @@ window_of c = c.bytes ++ replicate (64 - length c.bytes) 0
 abbrev pub entries_of : RunCase → List ℕ
 entries_of c = changed (replicate 258 0) c.entries
 
-abbrev pub Comes : RunCase → Type 0
-Comes c =
-    compartment_ran (window_of c) (bytes_of_all (entries_of c)) c.saved c.budget
-    ≡ record { code = c.code; count = c.count; window = changed (window_of c) c.stored; file = bytes_of_all (changed (entries_of c) c.written) }
+abbrev pub window_left : RunCase → List ℕ
+window_left c = changed (window_of c) c.stored
+
+abbrev pub entries_left : RunCase → List ℕ
+entries_left c = changed (entries_of c) c.written
+
+-- Each run of the list, as that of a compartment with a register file, ends as its case says.
+abbrev pub RanFromFiles : List RunCase → Type 0
+RanFromFiles cases =
+    map (λ c. compartment_ran (window_of c) (bytes_of_all (entries_of c)) c.saved c.budget) cases
+    ≡ map (λ c. record { code = c.code; count = c.count; window = window_left c; file = bytes_of_all (entries_left c) }) cases
+
+-- The error code, the count and what is left of a run that starts from the registers.
+abbrev pub left_by : Ran → ℕ × ℕ × Config
+left_by r = (end_code r.end, r.count, r.last)
+
+-- Each run of the list, with the entries in the registers, ends as its case says.
+abbrev pub RanFromRegisters : List RunCase → Type 0
+RanFromRegisters cases =
+    map (λ c. left_by (ran c.budget (record { window = window_of c; registers = entries_of c }))) cases
+    ≡ map (λ c. (c.code, c.count, record { window = window_left c; registers = entries_left c })) cases
