@@ -1,3 +1,4 @@
 pub mod Deciding
 pub mod Laying
 pub mod Answering
+pub mod Calling

@@ -30,12 +30,19 @@ filed_at file = row 0 4095 file 256 ∷ []
 abbrev pub rows_apart : ℕ → List Row
 rows_apart n = map (λ k. row (8192 * k) 4095 (8192 * k + 4096) 256) (range_with_len 0 n)
 
+-- The rows of the worked calls. Compartment 0 has the bytes 0 to 2,071; compartment 1 has its window, of max 15, at 2,072
+-- to 2,087, and its register file at 2,088 to 4,151, which the laid size of 4,152 ends.
+abbrev pub two_compartments : List Row
+two_compartments = row 0 7 8 256 ∷ row 2072 15 2088 256 ∷ []
+
+-- Areas that touch and areas that end at the laid size, and one byte past either.
 abbrev pub layings : List Laying
 layings =
     Accepts 8192 (filed_at 4096) ∷
     Accepts 8192 (filed_at 6128) ∷
     Refuses 8192 (filed_at 4095) 106 0 0 ∷
     Refuses 8192 (filed_at 6129) 105 0 0 ∷
+    Accepts 4152 two_compartments ∷
     []
 
 -- 101: no rows, one, sixteen and seventeen.

@@ -8,3 +8,5 @@ pub mod Widening
 pub mod Stacking
 pub mod Readings
 pub mod Layings
+pub mod Calling
+pub mod Refusing

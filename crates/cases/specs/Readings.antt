@@ -11,12 +11,12 @@ pub record Reading : Type 0 where
   pub is : Instruction
 
 abbrev pub reading : List ℕ → Operation → ℕ → ℕ → ℕ → ℕ → ℕ → ℕ → Reading
-reading bytes operation r s t u v length = record {
+reading bytes operation r s t u v its_length = record {
   bytes = bytes;
   is = record {
     operation = operation;
     operands = record { r = r; s = s; t = t; u = u; v = v; literal = 0 };
-    length = length;
+    length = its_length;
   };
 }
 

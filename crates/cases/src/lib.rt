@@ -1,11 +1,13 @@
 // The worked runs, layings and calls, proved about the definitions.
 #![tactic(auto)]
 
+ghost use Rattle.cases.specs.Calling.{AllAnswer};
 ghost use Rattle.cases.specs.Computing.{divisions, sums};
 ghost use Rattle.cases.specs.Ending.{endings, unknowns};
 ghost use Rattle.cases.specs.Layings.{LayingsHold, area_ends, laid_sizes, layings, orders, overlaps, row_counts, row_fields};
 ghost use Rattle.cases.specs.Moving.{literals, loads, moves, stores};
 ghost use Rattle.cases.specs.Readings.{AllRead, readings};
+ghost use Rattle.cases.specs.Refusing.{AcceptedRuns, compartments, indexes, lowest, memories, refused_runs, spans};
 ghost use Rattle.cases.specs.Runs.{RanFromFiles, RanFromRegisters};
 ghost use Rattle.cases.specs.Stacking.{jumps, offsets, stacks};
 ghost use Rattle.cases.specs.Widening.{comparisons, extensions};
@@ -43,4 +45,15 @@ pub fn worked_layings_hold()
     ensures area_ends { LayingsHold area_ends }
     ensures overlaps { LayingsHold overlaps }
     ensures orders { LayingsHold orders }
+{}
+
+// Each call of each list answers what its case says, and leaves what it says.
+pub fn worked_calls_hold()
+    ensures memories { AllAnswer memories }
+    ensures compartments { AllAnswer compartments }
+    ensures spans { AllAnswer spans }
+    ensures indexes { AllAnswer indexes }
+    ensures accepted_runs { AcceptedRuns }
+    ensures refused_runs { AllAnswer refused_runs }
+    ensures lowest { AllAnswer lowest }
 {}
