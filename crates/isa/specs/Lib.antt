@@ -1,6 +1,7 @@
 pub mod Windows
 pub mod Opcodes
 pub mod Reading
+pub mod Forms
 pub mod Ends
 pub mod Effects
 pub mod Steps

@@ -7,6 +7,7 @@ mod effect;
 mod end;
 mod form;
 mod instruction;
+mod laws;
 mod operation;
 mod table;
 
@@ -16,5 +17,6 @@ pub use effect::Effect;
 pub use end::End;
 pub use form::Form;
 pub use instruction::{Instruction, Operands};
+pub use laws::forms_agree;
 pub use operation::Operation;
 pub use table::{Entry, entry};
