@@ -30,7 +30,7 @@ width_below Qword v h = h
 pub zero_extended_below : (w : Width) (r : ℕ) → r < 2 ^ 64 → zero_extended w r < 2 ^ 64
 zero_extended_below w r h = omega (arith, mod-le r (2 ^ width_bits w))
 
-all_reverse : (P : ℕ → Type 0) (xs ys : List ℕ) → AllByRecursion P xs → AllByRecursion P ys → AllByRecursion P (reverse_aux xs ys)
+pub all_reverse : (P : ℕ → Type 0) (xs ys : List ℕ) → AllByRecursion P xs → AllByRecursion P ys → AllByRecursion P (reverse_aux xs ys)
 all_reverse P [] ys h k = k
 all_reverse P (x ∷ xs) ys h k = all_reverse P xs (x ∷ ys) h.1 (h.0, k)
 

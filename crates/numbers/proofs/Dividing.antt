@@ -54,7 +54,7 @@ division_stands (negsuc n) (negsuc d) h = record {
 }
 
 -- a difference below zero
-below_zero : (v n : ℕ) → v < suc n → pos v -ℤ pos (suc n) ≡ negsuc (n - v)
+pub below_zero : (v n : ℕ) → v < suc n → pos v -ℤ pos (suc n) ≡ negsuc (n - v)
 below_zero v n h = omega (arith, ints)
 
 pub signed_stands : SignedStands

@@ -3,7 +3,7 @@
 
 ghost use Rattle.std.specs.Prelude.{◌≡◌, ◌-◌, ◌^◌, if◌then◌else◌, Some, None, nat_eq};
 ghost use Rattle.std.specs.Ordering.{match_ordering};
-ghost use Rattle.numbers.specs.Laws.{DivisionStands, SignedStands};
+ghost use Rattle.numbers.specs.Laws.{ComparisonsAgree, DivisionStands, ExtensionsStand, LeftShiftsMultiply, RegistersDivide, ReversalsReturn, RightShiftsRoundDown, SignedStands, UnsignedDivisionStands};
 ghost use Rattle.numbers.specs.Values.{compared, compared_signed, divided, remaining, reversed, shifted_left, shifted_right, sign_extended, zero_extended};
 
 use memory::Width;
@@ -99,4 +99,31 @@ pub fn reverse(width: Width, r: u64) -> u64
 pub fn signed_division_stands()
     ensures division { DivisionStands }
     ensures signed { SignedStands }
+{}
+
+// Quotient times divisor plus remainder is the dividend, signed and unsigned.
+pub fn registers_divide()
+    ensures signed { RegistersDivide }
+    ensures unsigned { UnsignedDivisionStands }
+{}
+
+// To the left a shift multiplies by a power of two, to the right it divides and rounds down.
+pub fn shifts_scale()
+    ensures left { LeftShiftsMultiply }
+    ensures right { RightShiftsRoundDown }
+{}
+
+// Signed numbers compare as unsigned ones do once both have moved up by half the range.
+pub fn comparisons_agree()
+    ensures { ComparisonsAgree }
+{}
+
+// A sign extension, of every width, stands for the signed number that the low bits stood for.
+pub fn extensions_stand()
+    ensures { ExtensionsStand }
+{}
+
+// A second reversal takes back the first.
+pub fn reversals_return()
+    ensures { ReversalsReturn }
 {}
