@@ -6,6 +6,7 @@ pub mod Moving
 pub mod Computing
 pub mod Widening
 pub mod Stacking
+pub mod Edges
 pub mod Readings
 pub mod Layings
 pub mod Calling

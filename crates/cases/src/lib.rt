@@ -3,6 +3,7 @@
 
 ghost use Rattle.cases.specs.Calling.{AllAnswer};
 ghost use Rattle.cases.specs.Computing.{divisions, sums};
+ghost use Rattle.cases.specs.Edges.{edges, saves, twice, wraps};
 ghost use Rattle.cases.specs.Ending.{endings, unknowns};
 ghost use Rattle.cases.specs.Layings.{LayingsHold, area_ends, laid_sizes, layings, orders, overlaps, row_counts, row_fields};
 ghost use Rattle.cases.specs.Moving.{literals, loads, moves, stores};
@@ -29,6 +30,10 @@ pub fn worked_runs_hold()
     ensures jumps { RanFromRegisters jumps }
     ensures stacks { RanFromRegisters stacks }
     ensures offsets { RanFromRegisters offsets }
+    ensures edges { RanFromRegisters edges }
+    ensures wraps { RanFromRegisters wraps }
+    ensures twice { RanFromRegisters twice }
+    ensures saves { RanFromFiles saves }
 {}
 
 // Each instruction of the list is read as its case says.

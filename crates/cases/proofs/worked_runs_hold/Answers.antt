@@ -64,3 +64,19 @@ returns-clause-stacks c = refl
 pub returns-clause-offsets : goal.returns-clause-offsets
 unfolding bytes_of bytes_of_all value_at put_at load store opcodes entry_of instruction_of decoded stepped ran_on started filed compartment_ran
 returns-clause-offsets c = refl
+
+pub returns-clause-edges : goal.returns-clause-edges
+unfolding bytes_of bytes_of_all value_at put_at load store opcodes entry_of instruction_of decoded stepped ran_on started filed compartment_ran
+returns-clause-edges c = refl
+
+pub returns-clause-wraps : goal.returns-clause-wraps
+unfolding bytes_of bytes_of_all value_at put_at load store opcodes entry_of instruction_of decoded stepped ran_on started filed compartment_ran
+returns-clause-wraps c = refl
+
+pub returns-clause-twice : goal.returns-clause-twice
+unfolding bytes_of bytes_of_all value_at put_at load store opcodes entry_of instruction_of decoded stepped ran_on started filed compartment_ran
+returns-clause-twice c = refl
+
+pub returns-clause-saves : goal.returns-clause-saves
+unfolding bytes_of bytes_of_all value_at put_at load store opcodes entry_of instruction_of decoded stepped ran_on started filed compartment_ran
+returns-clause-saves c = refl
