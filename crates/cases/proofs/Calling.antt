@@ -8,7 +8,7 @@ use Rattle.isa.specs.declared.end.End.{End}
 use Rattle.plan.specs.Plans.{rows_of}
 use Rattle.plan.specs.declared.plan.Plan.{Plan}
 use Rattle.plan.specs.declared.row.Row.{Row}
-use Rattle.machine.specs.Calls.{Answer, Ended as EndedWith, Run, named}
+use Rattle.machine.specs.Calls.{Answer, Call, Ended as EndedWith, Run, named}
 use Rattle.machine.specs.Machines.{opening}
 use Rattle.machine.specs.Outcomes.{admission, outcome, by_grant, grant_at, row_or, row_unless, run_of}
 use Rattle.machine.specs.States.{State}
@@ -31,6 +31,13 @@ pub with_rows : (plan : Plan) → rows_of plan ≡ two_compartments → plan.siz
 with_rows plan rows size cases =
     ap (λ (rs : List Row). map (by_rows plan rs plan.size) cases) rows
     ∙ ap (λ (n : ℕ). map (by_rows plan two_compartments n) cases) size
+
+-- the same of one call in any state
+pub outcome_by : (s : State) (rows : List Row) (laid : ℕ) → rows_of s.plan ≡ rows → s.plan.size ≡ laid → (c : Call)
+    → outcome s c ≡ by_grant s c (grant_at c (cond (ltb (length s.held) laid) (Err refusal.Memory) (row_or (slice_get rows (named c)))))
+outcome_by s rows laid e f c =
+    ap (λ (rs : List Row). by_grant s c (grant_at c (cond (ltb (length s.held) s.plan.size) (Err refusal.Memory) (row_or (slice_get rs (named c)))))) e
+    ∙ ap (λ (n : ℕ). by_grant s c (grant_at c (cond (ltb (length s.held) n) (Err refusal.Memory) (row_or (slice_get rows (named c)))))) f
 
 -- a first instruction that ends the run ends it under every budget but 0
 past_end : (o : Option End) (e : End) (f : End → Ran) (x y : Ran) → o ≡ Some e → after o f x ≡ after o f y

@@ -11,3 +11,4 @@ pub mod Readings
 pub mod Layings
 pub mod Calling
 pub mod Refusing
+pub mod Recording

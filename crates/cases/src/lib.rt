@@ -8,6 +8,7 @@ ghost use Rattle.cases.specs.Ending.{endings, unknowns};
 ghost use Rattle.cases.specs.Layings.{LayingsHold, area_ends, laid_sizes, layings, orders, overlaps, row_counts, row_fields};
 ghost use Rattle.cases.specs.Moving.{literals, loads, moves, stores};
 ghost use Rattle.cases.specs.Readings.{AllRead, readings};
+ghost use Rattle.cases.specs.Recording.{RunRecords};
 ghost use Rattle.cases.specs.Refusing.{AcceptedRuns, compartments, indexes, lowest, memories, refused_runs, spans};
 ghost use Rattle.cases.specs.Runs.{RanFromFiles, RanFromRegisters};
 ghost use Rattle.cases.specs.Stacking.{jumps, offsets, stacks};
@@ -61,4 +62,9 @@ pub fn worked_calls_hold()
     ensures accepted_runs { AcceptedRuns }
     ensures refused_runs { AllAnswer refused_runs }
     ensures lowest { AllAnswer lowest }
+{}
+
+// A run that is accepted leaves its bytes and its record, and no other record.
+pub fn worked_record_holds()
+    ensures { RunRecords }
 {}
