@@ -16,7 +16,7 @@ pub record CallCase : Type 0 where
   pub answer : Answer
   pub stored : List (ℕ × ℕ)
 
--- A memory of zeros but for 9 in the last byte of that window, and 32 in that of that file.
+-- A memory of zeros but for 9 in the last byte of compartment 1's window, and 32 in the last of its register file.
 abbrev pub memory : ℕ → List ℕ
 memory size = changed (replicate size 0) ((2087, 9) ∷ (4151, 32) ∷ [])
 

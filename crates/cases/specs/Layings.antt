@@ -35,6 +35,10 @@ rows_apart n = map (λ k. row (8192 * k) 4095 (8192 * k + 4096) 256) (range_with
 abbrev pub two_compartments : List Row
 two_compartments = row 0 7 8 256 ∷ row 2072 15 2088 256 ∷ []
 
+-- The same the other way round: compartment 1 has the bytes 0 to 2,071.
+abbrev pub low_second : List Row
+low_second = row 2072 15 2088 256 ∷ row 0 7 8 256 ∷ []
+
 -- Areas that touch and areas that end at the laid size, and one byte past either.
 abbrev pub layings : List Laying
 layings =
@@ -43,6 +47,7 @@ layings =
     Refuses 8192 (filed_at 4095) 106 0 0 ∷
     Refuses 8192 (filed_at 6129) 105 0 0 ∷
     Accepts 4152 two_compartments ∷
+    Accepts 4152 low_second ∷
     []
 
 -- 101: no rows, one, sixteen and seventeen.

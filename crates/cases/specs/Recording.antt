@@ -2,21 +2,16 @@
 use Rattle.std.specs.Prelude.{◌≡◌, ℕ, List, [], ◌∷◌, replicate, Some, None}
 use Rattle.plan.specs.Plans.{rows_of}
 use Rattle.plan.specs.declared.plan.Plan.{Plan}
-use Rattle.plan.specs.declared.row.Row.{Row}
 use Rattle.machine.specs.Calls.{Run, Last, Ended, Latest}
 use Rattle.machine.specs.Machines.{opening}
 use Rattle.machine.specs.Outcomes.{outcome}
 use Rattle.machine.specs.States.{State}
 use Rattle.cases.specs.Runs.{changed}
 use Rattle.cases.specs.Rows.{from}
-use Rattle.cases.specs.Layings.{row}
+use Rattle.cases.specs.Layings.{low_second}
 use Rattle.cases.specs.Worked.{literal}
 
--- Compartment 1 has its window, of max 7, at 0 to 7, and its register file at 8 to 2,071. Its program puts 200 into
--- register 5 and halts.
-abbrev pub low_second : List Row
-low_second = row 2072 15 2088 256 ∷ row 0 7 8 256 ∷ []
-
+-- Compartment 1's window, at 0 to 7, has a program that puts 200 into register 5 and halts.
 abbrev pub programmed : List ℕ
 programmed = changed (replicate 4152 0) (from 0 literal)
 

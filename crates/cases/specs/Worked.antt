@@ -1,4 +1,4 @@
--- The worked runs of one instruction and more.
+-- The worked runs that show what a run is, of one compartment with its register file.
 use Rattle.std.specs.Prelude.{ℕ, List, [], ◌∷◌}
 use Rattle.isa.specs.Steps.{P, S}
 use Rattle.cases.specs.Runs.{RunCase}

@@ -9,7 +9,8 @@ use Rattle.isa.specs.Runs.{ran_on}
 use Rattle.isa.specs.Compartments.{started, filed, compartment_ran}
 use Rattle.machine.specs.Calls.{Run, Last}
 use Rattle.machine.specs.Machines.{opening}
-use Rattle.cases.specs.Recording.{low_second, programmed, run_left}
+use Rattle.cases.specs.Recording.{programmed, run_left}
+use Rattle.cases.specs.Layings.{low_second}
 use Rattle.cases.proofs.Calling.{outcome_by}
 use Rattle.cases.proofs.worked_record_holds.Goals as goal
 
