@@ -35,7 +35,7 @@ unfolding value_at
 from_be bs = omega arith
 
 -- the bytes of the number that bytes stand for
-bytes_of-value_at : (bs : List ℕ) (n : ℕ) → n ≤ length bs → ((k : ℕ) → get_or bs k 0 < 256) → bytes_of n (value_at bs 0 n) ≡ take n bs
+pub bytes_of-value_at : (bs : List ℕ) (n : ℕ) → n ≤ length bs → ((k : ℕ) → get_or bs k 0 < 256) → bytes_of n (value_at bs 0 n) ≡ take n bs
 unfolding bytes_of value_at
 bytes_of-value_at bs zero h small = refl
 bytes_of-value_at bs (suc n) h small =
