@@ -1,7 +1,7 @@
 // The register bank: a guard over a lent work area, which is wiped when the bank ends.
 ghost use Rattle.std.specs.Prelude.{◌≡◌, length, replicate};
 
-// The clauses name the work area, and no model hides it: a lender learns nothing of what a model's drop left.
+// The work area is the lender's, so the clauses name it.
 pub struct Bank<'a> {
     pub(crate) words: &'a mut [u64],
     ghost full: { length words.now ≡ 258 },

@@ -218,6 +218,7 @@ impl<M: Memory> Rows for Processor<'_, '_, '_, M> {
 
     ghost does = { Does };
 
+    // Built into each opcode's arm with all that it calls (`inline`), where the instruction is a constant but for its operands.
     #[inline(always)]
     fn row(&mut self, entry: Entry) {
         let instruction = self.window.instruction_inside(self.get(Register::P), entry);

@@ -11,8 +11,7 @@ use super::view::{View, place};
 use isa::{Code, Entry, Instruction, decode, decode_row};
 use memory::{Memory, Width, store_inside};
 
-// The bytes of an extent that the memory has whole, and that may change. No model hides the memory: its lender would
-// learn nothing of what a model's drop left.
+// The bytes of an extent that the memory has whole, and that may change.
 #[derive(Drop)]
 pub struct Window<'a, M: Memory> {
     pub memory: &'a mut M,
