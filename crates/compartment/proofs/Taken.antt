@@ -1,8 +1,7 @@
 -- The registers of a run's start: the entries that last were taken in, the others are zero.
-use Rattle.std.proofs.Common.{◌≡◌, ℕ, ◌+◌, ◌-◌, ◌*◌, ◌<◌, ◌≤◌, min, Bool, true, cond, List, ◌++◌, length, get_or, take, drop, replicate, set, sym, refl, ap, ◌∙◌, inl, inr, ⊎_elim, arith, length-set, get_or-set_other, get_or-set_same}
+use Rattle.std.proofs.Common.{◌≡◌, ℕ, ◌-◌, ◌<◌, ◌≤◌, min, Bool, cond, List, ◌++◌, length, get_or, take, drop, replicate, set, sym, ap, ◌∙◌, inl, inr, ⊎_elim, arith, length-set, get_or-set_other, get_or-set_same}
 use borrow.Rule.Slice.PartMut.{put_mid}
 use Rattle.std.proofs.lemmas.Bool.{cases_eq, cases_lt}
-use Rattle.std.proofs.lemmas.Bool.Decides.{nat_tests}
 use Rattle.std.proofs.lemmas.List.{length-append, length-take, length-drop, length-replicate, get_or_append_left, get_or-append_right, get_or-take, get_or-replicate}
 use Rattle.std.proofs.lemmas.List.FromFn.{fill_by_all}
 use Rattle.isa.specs.Compartments.{entry_value, keeps, started}
@@ -11,7 +10,6 @@ use Rattle.isa.proofs.Filing.{not_kept}
 use Rattle.compartment.proofs.Entries.{lasts, load_entry}
 
 module _ (file : List ℕ) (saved kept : ℕ) (full : length file ≡ 2064) (count : kept ≡ min saved 256) (rs zs : List ℕ) (p s : ℕ) (long : length rs ≡ 258) (taken : (k : ℕ) → k < kept → get_or rs k 0 ≡ entry_value file k) (zeros : zs ≡ replicate (256 - kept) 0) (p_is : p ≡ load file 8 2048) (s_is : s ≡ load file 8 2056) where
-
   length_general : length (put_mid kept (256 - kept) rs zs) ≡ 258
   length_general =
       let z : length zs ≡ 256 - kept = ap (λ (l : List ℕ). length l) zeros ∙ length-replicate (256 - kept) 0 in

@@ -1,4 +1,4 @@
-use Rattle.std.proofs.Common.{◌≡◌, ◌<◌, List, ℕ, length, get_or, inl, inr, sym, refl, ap, ◌∙◌, arith, rules}
+use Rattle.std.proofs.Common.{List, ℕ, get_or, inl, inr, refl, ap, arith, rules}
 use Rattle.window.specs.Windows.{parts_of}
 use Rattle.compartment.proofs.Entries.{lasts, none_back, unsaved_back, kept_back, all_back}
 use Rattle.compartment.proofs.file.put_back.Goals as goal
