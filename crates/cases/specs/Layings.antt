@@ -1,19 +1,17 @@
 -- A worked laying: rows and a laid size, and what laying them answers.
-use Rattle.std.specs.Prelude.{◌≡◌, ℕ, ◌+◌, ◌*◌, ◌-◌, ◌^◌, List, [], ◌∷◌, ◌++◌, map}
+use Rattle.std.specs.Prelude.{ℕ, ◌+◌, ◌*◌, ◌-◌, ◌^◌, List, [], ◌∷◌, ◌++◌, map}
 use Rattle.std.specs.List.{AllByRecursion, range_with_len}
-use Rattle.plan.specs.Grounds.{Faultless, Refuses as IsRefused, ground_number}
+use Rattle.plan.specs.Lays.{Accepted, Refused, IsDue}
 use Rattle.plan.specs.declared.row.Row.{Row}
-use Rattle.plan.specs.declared.ground.LayRefusal.{LayRefusal}
 
--- Accepted; or refused with this number, row and other row.
+-- The laid size and the rows; and that they are accepted, or refused with this number, row and other row.
 pub data Laying : Type 0 where
   Accepts : ℕ → List Row → Laying
   Refuses : ℕ → List Row → ℕ → ℕ → ℕ → Laying
 
 abbrev pub Holds : Laying → Type 0
-Holds (Accepts laid rows) = Faultless rows laid
-Holds (Refuses laid rows number row other) =
-    (e : LayRefusal) × (ground_number e.ground ≡ number) × (e.row ≡ row) × (e.other ≡ other) × IsRefused rows laid e
+Holds (Accepts laid rows) = IsDue rows laid Accepted
+Holds (Refuses laid rows number row other) = IsDue rows laid (Refused number row other)
 
 abbrev pub LayingsHold : List Laying → Type 0
 LayingsHold cases = AllByRecursion Holds cases
@@ -76,7 +74,7 @@ row_fields =
     Refuses 8192 (row 0 7 8 257 ∷ []) 104 0 0 ∷
     []
 
--- 105: the window, then the register file, area_ends at the laid size and one byte behind it; sums do not wrap.
+-- 105: the window, then the register file, ends at the laid size and one byte behind it; sums do not wrap.
 abbrev pub area_ends : List Laying
 area_ends =
     Accepts 4096 (row 4088 7 0 256 ∷ []) ∷
