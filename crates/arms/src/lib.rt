@@ -17,9 +17,9 @@ pub trait Rows {
     ghost does: { Self → Entry → Self → Type 0 };
 
     // Nothing comes back, so that no arm waits for another.
-    fn row(&mut self, entry: Entry)
+    fn row(&mut self, row: Entry)
         requires { ready self.old }
-        ensures { does self.old entry self.new };
+        ensures { does self.old row self.new };
 }
 
 // Does the row of an opcode that is a constant.

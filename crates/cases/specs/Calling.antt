@@ -43,8 +43,8 @@ asks call answer = record { size = 4152; call = call; answer = answer; stored = 
 abbrev pub refused : Call → ℕ → CallCase
 refused call number = asks call (Refused number)
 
-abbrev pub stores : Call → List (ℕ × ℕ) → CallCase
-stores call stored = record { size = 4152; call = call; answer = Done; stored = stored }
+abbrev pub writes : Call → List (ℕ × ℕ) → CallCase
+writes call stored = record { size = 4152; call = call; answer = Done; stored = stored }
 
 -- A call that is refused because the memory has one byte less than the laid size.
 abbrev pub too_small : Call → CallCase

@@ -17,8 +17,7 @@ use isa::{Effect, End, Entry, Instruction};
 use memory::{Memory, Width};
 use window::Window;
 
-// What instructions run on. It is made by its fields, and is lent the bank: whoever moves a bank, or passes it to a
-// function that makes this, does not know what it holds at the end.
+// What instructions run on. It is made by its fields, and is lent the bank.
 #[derive(Drop)]
 pub struct Processor<'m, 'b, 'w, M: Memory> {
     pub window: Window<'m, M>,
@@ -220,8 +219,8 @@ impl<M: Memory> Rows for Processor<'_, '_, '_, M> {
 
     // Built into each opcode's arm with all that it calls (`inline`), where the instruction is a constant but for its operands.
     #[inline(always)]
-    fn row(&mut self, entry: Entry) {
-        let instruction = self.window.instruction_inside(self.get(Register::P), entry);
+    fn row(&mut self, row: Entry) {
+        let instruction = self.window.instruction_inside(self.get(Register::P), row);
         self.obey(instruction);
     }
 }

@@ -21,7 +21,7 @@ fn literal<C: Code>(code: &C, width: Width) -> Operands
     }
 }
 
-// The operands of an instruction at p, each by an access of its own. An arm for each form, as the page has a row for each.
+// The operands of this form, each by an access of its own. An arm for each form, as the page has a row for each.
 #[inline(always)]
 pub(crate) fn read_operands<C: Code>(code: &C, form: Form) -> Operands
     ensures { result ≡ operands_at form (C.Code.shown code.now) (C.Code.start code.now) }

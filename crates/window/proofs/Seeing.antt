@@ -119,12 +119,12 @@ module _ (bs : List ℕ) (e : Extent) (whole : Whole bs e) (bs' : List ℕ) (n a
       ap (λ (l : List ℕ). memory_parts l e) (put ∙ store_seen bs e whole n a k at fits v)
       ∙ parts_replaced bs e whole (store (seen bs e) n a v) (length_store (seen bs e) n a v ∙ length_seen bs e whole)
 
-abbrev bytes_of : Parts → List ℕ
-bytes_of h = h.before ++ (h.window ++ h.behind)
+abbrev all_bytes : Parts → List ℕ
+all_bytes h = h.before ++ (h.window ++ h.behind)
 
-bytes_of_parts : (bs : List ℕ) (e : Extent) → bytes_of (memory_parts bs e) ≡ bs
+all_bytes_of_parts : (bs : List ℕ) (e : Extent) → all_bytes (memory_parts bs e) ≡ bs
 unfolding seen
-bytes_of_parts bs e =
+all_bytes_of_parts bs e =
     ap (λ (l : List ℕ). take e.off bs ++ (take (e.max + 1) (drop e.off bs) ++ l)) (sym (drop-drop (e.max + 1) e.off bs))
     ∙ ap (λ (l : List ℕ). take e.off bs ++ l) (take-append-drop (e.max + 1) (drop e.off bs))
     ∙ take-append-drop e.off bs
@@ -134,8 +134,8 @@ pub memory_replaced : (bs bs' : List ℕ) (e e' : Extent) → Whole bs e → Who
 memory_replaced bs bs' e e' whole whole' w is =
     let long : length w ≡ e.max + 1 =
     ap (λ (h : Parts). length h.window) (sym is) ∙ length_seen bs' e' whole' ∙ ap (λ (h : Parts). h.extent.max + 1) is in
-    sym (bytes_of_parts bs' e')
-    ∙ ap (λ (h : Parts). bytes_of h) is
+    sym (all_bytes_of_parts bs' e')
+    ∙ ap (λ (h : Parts). all_bytes h) is
     ∙ sym (replaced_is bs e whole w long)
 
 pub bytes_replaced : {M : Type 0} {g : Ghosts M} (bs : List ℕ) (e : Extent) → Whole bs e → (new : Window M g) (w : List ℕ) → parts_of new ≡ record (memory_parts bs e) { window = w } → g.bytes new.memory.now ≡ replaced bs e w

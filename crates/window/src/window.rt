@@ -40,7 +40,8 @@ impl<M: Memory> Window<'_, M> {
         })
     }
 
-    // Of an instruction that lies in the window whole: its opcode, and the instruction by its opcode's row. No access is placed.
+    // Of code that lies in the window whole: the opcode, and the instruction that a row of the table makes of it. No access is
+    // placed.
     pub fn opcode(&self, p: u64) -> u8
         requires { p + 10 ≤ self.now.extent.max + 1 }
         ensures { result ≡ loaded (parts_of self.now).window 1 p }
