@@ -28,7 +28,7 @@ pub(crate) fn number<'a>(words: &mut Scanner<'a>, operand: Operand) -> Result<u6
     value_of(word, operand)
 }
 
-// The line ends here. (A match: `map_or` with an `Ok` outside and an `Err` inside would hide which of the two is the fault.)
+// The line ends here.
 pub(crate) fn end<'a>(words: &mut Scanner<'a>) -> Result<(), Fault<'a>>
     ensures { MatchResult result (λ _. words.old ≡ []) (λ fault. EndFails words.old fault) }
 {

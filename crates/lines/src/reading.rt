@@ -16,7 +16,7 @@ use plan::Row;
 // The qwords of a work area, where a line does not say how many.
 const WORK: u64 = 258;
 
-// The rest of a line that begins with `memory`. (By `?` in each arm: by `map` three of its goals stayed open.)
+// The rest of a line that begins with `memory`.
 fn read_make<'a>(words: &mut Scanner<'a>) -> Result<MemoryMake, Fault<'a>>
     ensures { MatchResult result (λ m. AsksMake words.old m) (λ fault. MemoryFails words.old fault) }
 {
