@@ -13,14 +13,19 @@ pub(crate) enum NoNumber {
 pub(crate) fn digit_of(b: u8) -> Option<u64>
     ensures { SomeIff result (digit_of_lem b < 16) (digit_of_lem b) }
 {
-    char::from(b).to_digit(16).map(u64::from)
+    match b {
+        b'0'..=b'9' => Some(u64::from(b - b'0')),
+        b'a'..=b'f' => Some(u64::from(b - b'a') + 10),
+        b'A'..=b'F' => Some(u64::from(b - b'A') + 10),
+        _ => None,
+    }
 }
 
-// The value with one digit more, where 64 bits hold it.
+// The value with one digit more, where 64 bits hold it. By way of 128 bits, which takes one test in place of two.
 fn with_digit(value: u64, base: u64, digit: u64) -> Option<u64>
     ensures { SomeIff result (value * base + digit < 2 ^ 64) (value * base + digit) }
 {
-    value.checked_mul(base)?.checked_add(digit)
+    u64::try_from(u128::from(value) * u128::from(base) + u128::from(digit)).ok()
 }
 
 // A byte that is no digit is found also behind a value that is too large. By hand, since the library's `parse` is of text

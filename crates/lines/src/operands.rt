@@ -20,7 +20,9 @@ fn value_of(word: &[u8], operand: Operand) -> Result<u64, Fault<'_>>
     }
 }
 
-// The next word as the value of an operand.
+// The next word as the value of an operand. Not built into its callers: among all that reads a script its loops would
+// share their registers with everything else.
+#[inline(never)]
 pub(crate) fn number<'a>(words: &mut Scanner<'a>, operand: Operand) -> Result<u64, Fault<'a>>
     ensures { MatchResult result (λ n. (w : List ℕ) × (words.old ≡ w ∷ words.new) × Gives operand w n) (λ fault. NextFails operand words.old fault) }
 {
@@ -77,7 +79,8 @@ fn is_hex(word: &[u8]) -> bool
     word.len() % 2 == 0 && word.iter().all(|b| digit_of(*b).is_some())
 }
 
-// The rest of the line as bytes in hexadecimal, which may be left out, and no more.
+// The rest of the line as bytes in hexadecimal, which may be left out, and no more. Not built into its caller, as `number`.
+#[inline(never)]
 pub(crate) fn hex_or_none<'a>(words: &mut Scanner<'a>) -> Result<&'a [u8], Fault<'a>>
     ensures { MatchResult result (λ hex. HexOperand words.old hex.now) (λ fault. BytesFail words.old fault) }
 {
