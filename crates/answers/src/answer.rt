@@ -1,11 +1,11 @@
 // The answer to a line, and how it is written.
-ghost use Rattle.std.specs.Prelude.{◌≡◌, IfOk, Some};
-ghost use Rattle.answers.specs.Answers.{answer_text, hex_text, output_text};
+ghost use Rattle.std.specs.Prelude.{◌≡◌, ◌*◌, ◌<◌, ◌≤◌, IfOk, IsAscii, Some, length, take};
+ghost use Rattle.answers.specs.Answers.{answer_text, hex_digit_lem, hex_text, output_text};
 
 use machine::{Refusal, RunEnd};
 use plan::LayRefusal;
 use std::alloc::{AllocError, Global};
-use std::fmt;
+use std::{fmt, str};
 
 #[derive(Drop)]
 pub enum Answer {
@@ -22,6 +22,26 @@ pub enum Answer {
     Released,
 }
 
+// A digit below 16, in lower case.
+fn hex_digit(d: u8) -> u8
+    requires { d < 16 }
+    ensures { result ≡ hex_digit_lem d }
+{
+    if d < 10 { b'0' + d } else { b'a' - 10 + d }
+}
+
+// Puts the digits of the bytes at the start of the room.
+fn put_digits(bytes: &[u8], room: &mut [u8])
+    requires { 2 * length bytes.now ≤ length room.old }
+    ensures digits { take (2 * length bytes.now) room.new ≡ hex_text bytes.now }
+    ensures ascii { IsAscii (hex_text bytes.now) }
+{
+    for (i, &b) in bytes.iter().enumerate() {
+        room[2 * i] = hex_digit(b / 16);
+        room[2 * i + 1] = hex_digit(b % 16);
+    }
+}
+
 // Bytes that print as pairs of hexadecimal digits.
 #[derive(Clone, Copy)]
 struct Hex<'a>(&'a [u8]);
@@ -30,8 +50,14 @@ impl fmt::Display for Hex<'_> {
     ghost output = { λ h. Some (hex_text h.0.now) };
 
     fn fmt<W: fmt::Write>(&self, f: &mut fmt::Formatter<W>) -> fmt::Result {
-        for &b in self.0 {
-            write!(f, "{b:02x}")?;
+        // Many bytes at a time, since a call of the writer costs far more than a digit.
+        let mut room = [0; 64];
+        for bytes in self.0.chunks(32) {
+            put_digits(bytes, &mut room);
+            let Ok(text) = str::from_utf8(&room[..2 * bytes.len()]) else {
+                unreachable!();
+            };
+            f.write_str(text)?;
         }
         Ok(())
     }
