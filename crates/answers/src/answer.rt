@@ -97,8 +97,12 @@ impl Answer {
     pub fn written(&self, heap: Global, line: &[u8]) -> Result<Vec<u8>, AllocError>
         ensures { IfOk result (λ v. v.items ≡ output_text line.now self.now) }
     {
-        let mut out = Vec::from_slice(heap, line)?;
-        out.extend_from_slice(format!(in heap; ": {self}\n")?.as_bytes())?;
+        // Room for all but the longest answers, so that memory for the text is asked for once.
+        let mut text = String::with_capacity(heap, 64)?;
+        write!(text, ": {self}\n")?;
+        let mut out = Vec::with_capacity(heap, line.len() + text.len())?;
+        out.extend_from_slice(line)?;
+        out.extend_from_slice(text.as_bytes())?;
         Ok(out)
     }
 }
