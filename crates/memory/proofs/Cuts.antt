@@ -2,7 +2,7 @@
 use Rattle.std.specs.Prelude.{◌≡◌, ℕ, ◌+◌, ◌-◌, ◌^◌, ◌<◌, ◌≤◌, min, List, ◌++◌, length, slice_index, slice_set, refl}
 use Rattle.std.proofs.Common.{sym, ◌∙◌, arith, length-take, get_or-take, drop-set-lt, get_or-append-add}
 use Rattle.std.proofs.Math.Seq.{take-set-lt}
-use Rattle.std.proofs.lemmas.List.{get_or_append_left, set-append_right, set-append_left}
+use Rattle.std.proofs.lemmas.List.{set_past, get_or_past, get_or_append_left, set-append_right, set-append_left}
 use Rattle.memory.specs.Bytes.{cut, past}
 
 pub length_cut : (bs : List ℕ) → length (cut bs) ≡ min (2 ^ 32) (length bs)
@@ -21,6 +21,12 @@ set-cut xs i b e f h = rw (e, f) (take-set-lt (2 ^ 32) xs i b h)
 pub past_set : (xs : List ℕ) (k y : ℕ) → k < 2 ^ 32 → past (slice_set xs k y) ≡ past xs
 unfolding past
 past_set xs k y h = drop-set-lt (2 ^ 32) xs k y h
+
+pub slice_index_out : (xs : List ℕ) (i : ℕ) → 2 ^ 32 ≤ i → 0 ≡ slice_index (cut xs) i
+slice_index_out xs i h = sym (get_or_past (cut xs) i 0 (omega (arith, length_cut xs)))
+
+pub set_out : (xs : List ℕ) (i b : ℕ) → 2 ^ 32 ≤ i → cut xs ≡ slice_set (cut xs) i b
+set_out xs i b h = sym (set_past (cut xs) i b (omega (arith, length_cut xs)))
 
 -- two lists, one after the other
 module _ (xs ys : List ℕ) (n i : ℕ) (long : n ≡ length xs) where

@@ -40,9 +40,13 @@ impl<A: Memory, B: Memory> Memory for Spliced<A, B> {
         if n < LIMIT { n } else { LIMIT }
     }
 
+    // By the size of the first part alone: the second part tests the rest of the address itself.
     fn read(&self, address: u64) -> u8 {
-        if address < self.size() {
-            self.read_inside(address)
+        let seam = self.first.size();
+        if address < seam {
+            self.first.read(address)
+        } else if address < LIMIT {
+            self.second.read(address - seam)
         } else {
             0
         }
@@ -61,8 +65,11 @@ impl<A: Memory, B: Memory> Memory for Spliced<A, B> {
         ensures value { spliced_bytes A.Memory.bytes B.Memory.bytes self.new ≡ slice_set (spliced_bytes A.Memory.bytes B.Memory.bytes self.old) address byte }
         ensures rest { past (spliced_all A.Memory.bytes B.Memory.bytes self.new) ≡ past (spliced_all A.Memory.bytes B.Memory.bytes self.old) }
     {
-        if address < self.size() {
-            self.write_inside(address, byte);
+        let seam = self.first.size();
+        if address < seam {
+            self.first.write(address, byte);
+        } else if address < LIMIT {
+            self.second.write(address - seam, byte);
         }
     }
 
