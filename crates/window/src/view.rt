@@ -1,10 +1,13 @@
 // A window as it is read.
 ghost use Rattle.std.specs.Prelude.{◌≡◌, ◌+◌, ◌≤◌};
+ghost use Rattle.isa.specs.Reading.{decoded};
 ghost use Rattle.isa.specs.Windows.{load as loaded, placed};
 ghost use Rattle.memory.specs.Widths.{width_bytes};
 ghost use Rattle.window.specs.Views.{seen, Whole};
 
+use super::code::Anywhere;
 use super::extent::Extent;
+use isa::{Instruction, decode};
 use memory::{Memory, Width, load_inside};
 use std::marker::Model;
 
@@ -37,6 +40,17 @@ impl<'a, M: Memory> View<'a, M> {
 }
 
 impl<M: Memory> View<'_, M> {
+    // The instruction at an address, wherever it lies.
+    pub fn instruction(&self, p: u64) -> Instruction
+        ensures { result ≡ decoded self.now p }
+    {
+        decode(&Anywhere {
+            memory: self.memory,
+            extent: self.extent,
+            p,
+        })
+    }
+
     #[tactic(auto, using(crate::proofs::Seeing::load_seen))]
     fn number(&self, width: Width, address: u64) -> u64
         ensures { result ≡ loaded self.now (width_bytes width) address }

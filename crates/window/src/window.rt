@@ -5,10 +5,10 @@ ghost use Rattle.isa.specs.Windows.{load as loaded, store as stored};
 ghost use Rattle.memory.specs.Widths.{width_bytes};
 ghost use Rattle.window.specs.Views.{Whole};
 
-use super::code::{Anywhere, Inside};
+use super::code::Inside;
 use super::extent::Extent;
 use super::view::{View, place};
-use isa::{Code, Entry, Instruction, decode, decode_row};
+use isa::{Code, Entry, Instruction, decode_row};
 use memory::{Memory, Width, store_inside};
 
 // The bytes of an extent that the memory has whole, and that may change.
@@ -33,11 +33,7 @@ impl<M: Memory> Window<'_, M> {
     pub fn instruction(&self, p: u64) -> Instruction
         ensures { result ≡ decoded (parts_of self.now).window p }
     {
-        decode(&Anywhere {
-            memory: self.memory,
-            extent: self.extent,
-            p,
-        })
+        self.view().instruction(p)
     }
 
     // Of code that lies in the window whole: the opcode, and the instruction that a row of the table makes of it. No access is
