@@ -1,4 +1,4 @@
-use Rattle.std.proofs.Common.{◌≡◌, suc, ◌+◌, ◌-◌, ◌<◌, length, ◌∙◌, add-one, length-set, arith, rules}
+use Rattle.std.proofs.Common.{◌≡◌, suc, ◌+◌, ◌-◌, ◌<◌, length, slice_index, ◌∙◌, add-one, length-set, arith, rules}
 use Rattle.memory.specs.Bytes.{value_at}
 use Rattle.memory.specs.Widths.{width_bytes}
 use Rattle.memory.proofs.Digits.{from_be}
@@ -21,7 +21,8 @@ loop-i-preserved g c =
     let inside : m < length bs = search rules in
     let l = length-set bs m c.read.result in
     let next : 8 - c.bytes-first.result + (c.loop-i.i + 1) ≡ suc m = omega arith in
-    (omega arith, rw (next, add-one) (value_at-set bs _ c.args.address m c.loop-i.i _ inside c.read.ensures c.loop-i.invariant.1))
+    let read : c.read.result ≡ slice_index (g.M.Memory.bytes c.args.memory.now) (c.args.address + c.loop-i.i) = search rules in
+    (omega arith, rw (next, add-one) (value_at-set bs _ c.args.address m c.loop-i.i _ inside read c.loop-i.invariant.1))
 
 pub returns : goal.returns
 returns g c =

@@ -14,7 +14,7 @@ pub loop-i-init : goal.loop-i-init
 loop-i-init g c =
     let all : 8 - c.bytes-first.result + c.bytes-i.result ≡ 8 = search rules in
     let low : value_at c.to_be_bytes-bytes.result 0 8 ≡ c.args.value =
-    ap (λ (l : List ℕ). value_at l 0 8) (c.to_be_bytes-bytes.ensures ∙ to_be c.args.value) ∙ value_at-bytes_of 8 c.args.value ∙ omega arith in
+    ap (λ (l : List ℕ). value_at l 0 8) (c.to_be_bytes-bytes.ensures ∙ to_be _) ∙ value_at-bytes_of 8 _ ∙ search rules in
     cc
 
 pub loop-i-preserved : goal.loop-i-preserved
