@@ -23,11 +23,15 @@ pub enum Answer {
 }
 
 // A digit below 16, in lower case.
-fn hex_digit(d: u8) -> u8
-    requires { d < 16 }
-    ensures { result ≡ hex_digit_lem d }
+fn hex_digit(digit: u8) -> u8
+    requires { digit < 16 }
+    ensures { result ≡ hex_digit_lem digit }
 {
-    if d < 10 { b'0' + d } else { b'a' - 10 + d }
+    if digit < 10 {
+        b'0' + digit
+    } else {
+        b'a' - 10 + digit
+    }
 }
 
 // Puts the digits of the bytes at the start of the room.

@@ -1,4 +1,4 @@
-use Rattle.std.proofs.Common.{◌≡◌, ℕ, zero, suc, ◌+◌, ◌*◌, ◌/◌, ◌%◌, List, [], ◌∷◌, length, take, get_or, map, refl, ap, ◌∙◌, arith, rules}
+use Rattle.std.proofs.Common.{◌≡◌, ℕ, zero, suc, ◌+◌, ◌*◌, ◌/◌, ◌%◌, List, [], ◌∷◌, length, get_or, map, refl, ap, ◌∙◌, arith, rules}
 use Rattle.std.proofs.Math.Seq.{take-length}
 use Rattle.std.specs.Simd.{first_chunks}
 use Rattle.std.proofs.lemmas.Iterator.{YieldsList-from_slice, YieldsList-from_map, items_from_collect}
@@ -25,12 +25,8 @@ pairs_of : (pairs : List (List ℕ)) (text hex : List ℕ) → pairs ≡ first_c
     → map pair_byte pairs ≡ hex_bytes hex
 pairs_of pairs text hex e whole = ap (map pair_byte) e ∙ pairs_all text _ refl ∙ ap hex_bytes whole
 
--- all of a text, as its front
-take_whole : (xs : List ℕ) → take (length xs) xs ≡ xs
-take_whole xs = take-length xs
-
 pub returns : goal.returns
 returns c =
-    let bytes = pairs_of c.as_chunks.result.0.now _ c.args.hex.now c.as_chunks.ensures.front (search (rules, take_whole)) in
+    let bytes = pairs_of c.as_chunks.result.0.now _ c.args.hex.now c.as_chunks.ensures.front (search (rules, take-length)) in
     IfOk-weaker c.collect.result _ _ (λ _ h. h ∙ bytes)
     (items_from_collect _ c.collect.ensures.ran (YieldsList-from_map _ pair_byte (YieldsList-from_slice c.as_chunks.result.0.now cc) c.map.ensures.closure (λ x r q k. search rules)))
